@@ -1,0 +1,6 @@
+mod Covering
+mod Credentials
+mod Hearing
+mod Laws
+mod Reading
+mod Writing

@@ -1,0 +1,41 @@
+use mathlib.Core.Path.{_≡_, refl, sym, ap, _∙_}
+use mathlib.Core.List.{List, [], _∷_, _++_}
+use native.Mathlib.Omega.{arith}
+use native.Mathlib.Nat.{add-zero}
+use Prim.Native.Nat.{ℕ, _+_, _-_, _*_, _/_, _%_, _≤_}
+use lib.ListN.{length, take, drop, getD}
+use Rattle.std.proofs.shelf.Lists.{take-append-drop, take-more, take-all, length-take-le}
+use Rattle.handshake.specs.Texts.{hex, digit, written}
+use Rattle.handshake.proofs.Writing.{length-hex, hex-append, written-more}
+use Rattle.handshake.proofs.reply.put_hex.Needs as need
+
+pub loop-b-holds : need.loop-b-holds
+loop-b-holds c =
+    (omega arith, simp add-zero (sym (take-append-drop (c .args .at) (c .args .out .now))))
+
+pub loop-b-again : need.loop-b-again
+loop-b-again c =
+    let bytes : List ℕ = c .args .bytes .now in
+    let i : ℕ = c .loop-b .b-index in
+    let b : ℕ = getD bytes i 0 in
+    let two : List ℕ = digit (b / 16) ∷ digit (b % 16) ∷ [] in
+    let done : List ℕ = hex (take i bytes) in
+    let many : length done ≡ 2 * i =
+    let n = length-hex (take i bytes) in let m = length-take-le i bytes (omega arith) in omega arith
+    in
+    let next : hex (take (i + 1) bytes) ≡ done ++ two =
+    ap hex (take-more bytes i 0 (c .loop-b-test .taken)) ∙ hex-append (take i bytes) (b ∷ [])
+    in
+    let here : c .loop-b .end ≡ c .args .at + length done = omega arith in
+    let joined = written-more (c .args .at) done two (c .args .out .now) (omega arith) in
+    let high = c .digit-of .ensures in
+    let low = c .digit-of-in-loop-b .ensures in
+    let wrote = c .put-end .ensures .after in
+    let was = c .loop-b .inv .1 in
+    (omega arith, cc)
+
+pub returns : need.returns
+returns c =
+    let all = take-all (c .loop-b .b-index) (c .args .bytes .now) (c .loop-b-test .left) in
+    let was = c .loop-b .inv .1 in
+    record { end = omega arith; after = cc }

@@ -1,0 +1,4 @@
+pub mod Law
+pub mod Lines
+pub mod Machine
+pub mod Texts

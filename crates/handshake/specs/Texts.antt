@@ -1,0 +1,41 @@
+-- The texts of the handshake: numbers in hex and in decimal, and what each answer says.
+use mathlib.Core.Bool.{cond}
+use mathlib.Core.List.{List, [], _∷_, _++_}
+use Prim.Native.Nat.{ℕ, _+_, _/_, _%_}
+use lib.Chars.{codes}
+use lib.ListN.{length, take, drop, getD}
+use Rattle.std.specs.Written.{decimal}
+use Rattle.handshake.specs.declared.reply.Reply.{Reply}
+use Rattle.handshake.specs.declared.reply.Reply.the-variants as reply
+
+-- the lower-case hex digit of a number below 16
+abbrev pub digit : ℕ → ℕ
+digit n = getD (codes "0123456789abcdef") n 0
+
+-- each byte as two hex digits
+abbrev pub hex : List ℕ → List ℕ
+hex [] = []
+hex (b ∷ bs) = digit (b / 16) ∷ digit (b % 16) ∷ hex bs
+
+-- what shows a uid: its decimal text, without leading zeros, in hex
+abbrev pub credential : ℕ → List ℕ
+credential uid = hex (decimal uid)
+
+-- CR and LF
+abbrev pub line-end : List ℕ
+line-end = 13 ∷ 10 ∷ []
+
+-- the bytes of an answer, for the id of the server
+abbrev pub wording : List ℕ → Reply → List ℕ
+wording id reply.Okay = codes "OK " ++ hex id ++ line-end
+wording id reply.Rejected = codes "REJECTED EXTERNAL" ++ line-end
+wording id reply.Error = codes "ERROR" ++ line-end
+wording id reply.Silence = []
+
+-- a text written onto the front of a buffer, whose rest stays
+abbrev pub onto : List ℕ → List ℕ → List ℕ
+onto text buffer = text ++ drop (length text) buffer
+
+-- the same at a place
+abbrev pub written : ℕ → List ℕ → List ℕ → List ℕ
+written at text buffer = take at buffer ++ (text ++ drop (at + length text) buffer)

@@ -1,0 +1,3 @@
+// The table of sixteen connections, and the life of each.
+pub mod calls;
+pub mod table;
