@@ -15,31 +15,29 @@ use Rattle.std.proofs.shelf.Equals.{sameBytes-decides}
 use Rattle.std.proofs.shelf.Lists.{append-assoc, same-from-push}
 use Rattle.std.proofs.shelf.Tests.{cases-lt, false≢true}
 use Rattle.std.proofs.shelf.Ways.{same-from-decides, decides-like}
-use Rattle.handshake.specs.Texts.{hex, digit, credential}
-use Rattle.handshake.proofs.Writing.{hex-append}
+use Rattle.hex.specs.Hex.{digit, pairs}
+use Rattle.hex.proofs.Pairs.{digit-below, pairs-append}
+use Rattle.handshake.specs.Texts.{credential}
 
 -- a decimal digit in hex
 abbrev pub pair : ℕ → List ℕ
 pair d = 51 ∷ (48 + d) ∷ []
 
-digit-below : (d : ℕ) → d < 10 → digit d ≡ 48 + d
-digit-below d h = search needs
-
-hex-digit : (d : ℕ) → d < 10 → hex ((48 + d) ∷ []) ≡ pair d
-hex-digit d h =
+pairs-digit : (d : ℕ) → d < 10 → pairs ((48 + d) ∷ []) ≡ pair d
+pairs-digit d h =
     let high : (48 + d) / 16 ≡ 3 = omega arith in
     let low : (48 + d) % 16 ≡ d = omega arith in
     rw (high, low) (ap (λ (n : ℕ). 51 ∷ n ∷ []) (digit-below d h))
 
 pub credential-digit : (uid : ℕ) → uid < 10 → credential uid ≡ pair uid
-credential-digit uid h = ap hex (decimal-digit uid h) ∙ hex-digit uid h
+credential-digit uid h = ap pairs (decimal-digit uid h) ∙ pairs-digit uid h
 
 pub credential-step : (uid : ℕ) → 10 ≤ uid → uid < 2 ^ 32 → credential uid ≡ credential (uid / 10) ++ pair (uid % 10)
 credential-step uid h fits =
     let small : uid % 10 < 10 = omega arith in
-    ap hex (decimal-step uid h (omega arith))
-    ∙ hex-append (decimal (uid / 10)) ((48 + uid % 10) ∷ [])
-    ∙ ap (λ (xs : List ℕ). credential (uid / 10) ++ xs) (hex-digit (uid % 10) small)
+    ap pairs (decimal-step uid h (omega arith))
+    ∙ pairs-append (decimal (uid / 10)) ((48 + uid % 10) ∷ [])
+    ∙ ap (λ (xs : List ℕ). credential (uid / 10) ++ xs) (pairs-digit (uid % 10) small)
 
 -- the last digit of every uid's text
 credential-ends : (uid : ℕ) → uid < 2 ^ 32 → (front : List ℕ) × (credential uid ≡ front ++ pair (uid % 10))

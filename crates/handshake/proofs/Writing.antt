@@ -1,22 +1,11 @@
--- What is written one after the other, and how long hex is.
+-- What is written one after the other.
 use mathlib.Core.Path.{_≡_, refl, sym, ap, _∙_}
 use mathlib.Core.List.{List, [], _∷_, _++_, append-assoc}
 use Prim.Native.Nat.{ℕ, _+_, _*_, _/_, _%_, _≤_, _<_}
 use native.Mathlib.Omega.{arith}
 use lib.ListN.{length, take, drop, getD, length-append, length-take, length-drop}
 use Rattle.std.proofs.shelf.Lists.{take-more, length-take-le, take-at, drop-at, drop-drop, take-append-le, drop-append-le, append-nil}
-use Rattle.handshake.specs.Texts.{hex, digit, written}
-
-pub length-hex : (bs : List ℕ) → length (hex bs) ≡ 2 * length bs
-length-hex [] = refl
-length-hex (b ∷ bs) = let e = length-hex bs in omega arith
-
-pub hex-append : (xs ys : List ℕ) → hex (xs ++ ys) ≡ hex xs ++ hex ys
-hex-append [] ys = refl
-hex-append (x ∷ xs) ys = ap (λ (r : List ℕ). digit (x / 16) ∷ digit (x % 16) ∷ r) (hex-append xs ys)
-
-pub written-length : (at : ℕ) (text buffer : List ℕ) → at + length text ≤ length buffer → length (written at text buffer) ≡ length buffer
-written-length at text buffer h = simp (length-append, length-take, length-drop) (omega arith)
+use Rattle.handshake.specs.Texts.{written}
 
 -- two texts, the second where the first ends, are one
 pub written-more : (at : ℕ) (a b buffer : List ℕ) → at + length a + length b ≤ length buffer → written (at + length a) b (written at a buffer) ≡ written at (a ++ b) buffer

@@ -1,25 +1,16 @@
--- The texts of the handshake: numbers in hex and in decimal, and what each answer says.
-use mathlib.Core.Bool.{cond}
+-- The texts of the handshake: what shows a uid, and what each answer says.
 use mathlib.Core.List.{List, [], _∷_, _++_}
-use Prim.Native.Nat.{ℕ, _+_, _/_, _%_}
+use Prim.Native.Nat.{ℕ, _+_}
 use lib.Chars.{codes}
-use lib.ListN.{length, take, drop, getD}
+use lib.ListN.{length, take, drop}
+use Rattle.hex.specs.Hex.{pairs}
 use Rattle.std.specs.Written.{decimal}
 use Rattle.handshake.specs.declared.reply.Reply.{Reply}
 use Rattle.handshake.specs.declared.reply.Reply.the-variants as reply
 
--- the lower-case hex digit of a number below 16
-abbrev pub digit : ℕ → ℕ
-digit n = getD (codes "0123456789abcdef") n 0
-
--- each byte as two hex digits
-abbrev pub hex : List ℕ → List ℕ
-hex [] = []
-hex (b ∷ bs) = digit (b / 16) ∷ digit (b % 16) ∷ hex bs
-
 -- what shows a uid: its decimal text, without leading zeros, in hex
 abbrev pub credential : ℕ → List ℕ
-credential uid = hex (decimal uid)
+credential uid = pairs (decimal uid)
 
 -- CR and LF
 abbrev pub line-end : List ℕ
@@ -27,7 +18,7 @@ line-end = 13 ∷ 10 ∷ []
 
 -- the bytes of an answer, for the id of the server
 abbrev pub wording : List ℕ → Reply → List ℕ
-wording id reply.Okay = codes "OK " ++ hex id ++ line-end
+wording id reply.Okay = codes "OK " ++ pairs id ++ line-end
 wording id reply.Rejected = codes "REJECTED EXTERNAL" ++ line-end
 wording id reply.Error = codes "ERROR" ++ line-end
 wording id reply.Silence = []

@@ -3,7 +3,9 @@ ghost use mathlib.Core.Path.{_≡_};
 ghost use mathlib.Core.List.{_++_};
 ghost use Prim.Native.Nat.{_+_, _*_, _≤_, _<_};
 ghost use lib.ListN.{length, take, drop};
-ghost use Rattle.handshake.specs.Texts.{hex, digit, wording, onto, written};
+ghost use Rattle.hex.specs.Hex.{pairs};
+ghost use Rattle.handshake.specs.Texts.{wording, onto, written};
+use hex::pair;
 
 // The bytes that the longest answer takes: OK, a space, 32 hex digits, CR and LF.
 pub const ROOM: usize = 37;
@@ -21,14 +23,6 @@ pub enum Reply {
     Silence,
 }
 
-// The lower-case hex digit of a number below 16.
-fn digit_of(n: u8) -> u8
-    requires { ⌜ n < 16 ⌝ }
-    ensures { λ r. ⌜ r ≡ digit n ⌝ }
-{
-    if n < 10 { b'0' + n } else { b'a' + (n - 10) }
-}
-
 // Writes a text at a place of the buffer, and answers where it ends.
 fn put(out: &mut [u8], at: usize, text: &[u8]) -> usize
     requires { ⌜ at + length (now text) ≤ length (now out) ⌝ }
@@ -44,11 +38,11 @@ fn put(out: &mut [u8], at: usize, text: &[u8]) -> usize
 fn put_hex(out: &mut [u8], at: usize, bytes: &[u8]) -> usize
     requires { ⌜ at + 2 * length (now bytes) ≤ length (now out) ⌝ }
     ensures end { λ r. ⌜ r ≡ at + 2 * length (now (bytes .entry)) ⌝ }
-    ensures after { λ _. ⌜ now (out .exit) ≡ written at (hex (now (bytes .entry))) (now (out .entry)) ⌝ }
+    ensures after { λ _. ⌜ now (out .exit) ≡ written at (pairs (now (bytes .entry))) (now (out .entry)) ⌝ }
 {
     let mut end = at;
     for b in bytes {
-        end = put(out, end, &[digit_of(*b / 16), digit_of(*b % 16)]);
+        end = put(out, end, &pair(*b));
     }
     end
 }

@@ -5,8 +5,10 @@ use native.Mathlib.Nat.{add-zero}
 use Prim.Native.Nat.{ℕ, _+_, _-_, _*_, _/_, _%_, _≤_}
 use lib.ListN.{length, take, drop, getD}
 use Rattle.std.proofs.shelf.Lists.{take-append-drop, take-more, take-all, length-take-le}
-use Rattle.handshake.specs.Texts.{hex, digit, written}
-use Rattle.handshake.proofs.Writing.{length-hex, hex-append, written-more}
+use Rattle.hex.specs.Hex.{digit, pairs}
+use Rattle.hex.proofs.Pairs.{length-pairs, pairs-append}
+use Rattle.handshake.specs.Texts.{written}
+use Rattle.handshake.proofs.Writing.{written-more}
 use Rattle.handshake.proofs.reply.put_hex.Needs as need
 
 pub loop-b-holds : need.loop-b-holds
@@ -19,17 +21,16 @@ loop-b-again c =
     let i : ℕ = c .loop-b .b-index in
     let b : ℕ = getD bytes i 0 in
     let two : List ℕ = digit (b / 16) ∷ digit (b % 16) ∷ [] in
-    let done : List ℕ = hex (take i bytes) in
+    let done : List ℕ = pairs (take i bytes) in
     let many : length done ≡ 2 * i =
-    let n = length-hex (take i bytes) in let m = length-take-le i bytes (omega arith) in omega arith
+    let n = length-pairs (take i bytes) in let m = length-take-le i bytes (omega arith) in omega arith
     in
-    let next : hex (take (i + 1) bytes) ≡ done ++ two =
-    ap hex (take-more bytes i 0 (c .loop-b-test .taken)) ∙ hex-append (take i bytes) (b ∷ [])
+    let next : pairs (take (i + 1) bytes) ≡ done ++ two =
+    ap pairs (take-more bytes i 0 (c .loop-b-test .taken)) ∙ pairs-append (take i bytes) (b ∷ [])
     in
     let here : c .loop-b .end ≡ c .args .at + length done = omega arith in
     let joined = written-more (c .args .at) done two (c .args .out .now) (omega arith) in
-    let high = c .digit-of .ensures in
-    let low = c .digit-of-in-loop-b .ensures in
+    let both = c .pair .ensures in
     let wrote = c .put-end .ensures .after in
     let was = c .loop-b .inv .1 in
     (omega arith, cc)

@@ -5,21 +5,23 @@ use native.Mathlib.Nat.{zero-add}
 use Prim.Native.Nat.{ℕ, _+_, _-_, _*_, _≤_}
 use lib.Chars.{codes}
 use lib.ListN.{length, length-append}
-use Rattle.handshake.specs.Texts.{hex, wording, onto, written, line-end}
-use Rattle.handshake.proofs.Writing.{length-hex, written-more}
+use Rattle.hex.specs.Hex.{pairs}
+use Rattle.hex.proofs.Pairs.{length-pairs}
+use Rattle.handshake.specs.Texts.{wording, onto, written, line-end}
+use Rattle.handshake.proofs.Writing.{written-more}
 use Rattle.handshake.proofs.reply.Reply.write.Needs as need
 
 pub returns-in-Okay : need.returns-in-Okay
 returns-in-Okay c =
     let id : List ℕ = c .args .id .now in
     let out : List ℕ = c .args .out .now in
-    let front : List ℕ = codes "OK " ++ hex id in
+    let front : List ℕ = codes "OK " ++ pairs id in
     let text : List ℕ = front ++ line-end in
     let said : wording id (c .args .self) ≡ text = ap (wording id) (c .in-Okay .is) in
-    let many = length-hex id in
+    let many = length-pairs id in
     let size : length front ≡ 35 = simp length-append (omega (arith, many, c .told-id)) in
     let whole : length text ≡ 37 = simp length-append (omega (arith, many, c .told-id)) in
-    let one = written-more 0 (codes "OK ") (hex id) out (omega (arith, many, c .told-id)) in
+    let one = written-more 0 (codes "OK ") (pairs id) out (omega (arith, many, c .told-id)) in
     let two = written-more 0 front line-end out (omega arith) in
     let first : c .put-at .result ≡ 0 + length (codes "OK ") = omega arith in
     let second : c .put-hex-at .result ≡ 0 + length front = omega (arith, many, c .told-id) in

@@ -1,0 +1,3 @@
+// Makes the calls of a recorded stream, and counts them.
+pub mod perform;
+pub mod tally;
