@@ -4,3 +4,5 @@ pub mod credential;
 pub mod machine;
 pub mod parse;
 pub mod reply;
+#[cfg(test)]
+mod tests;

@@ -68,7 +68,7 @@ fn replay_input(rt: &LibcRuntime) -> Result<Tally, AnyError> {
         }
     }
     match session.end() {
-        Ok(()) => Ok(session.tally()),
+        Ok(tally) => Ok(tally),
         Err(trouble) => Err(format!(heap, "at the end: {trouble}")?.into()),
     }
 }
@@ -85,11 +85,24 @@ fn run(rt: &LibcRuntime) -> Result<(), AnyError> {
     print_summary(rt, tally)?;
     let wrong = tally.calls().saturating_sub(tally.agreed);
     if wrong > 0 {
-        return Err(format!(rt.alloc(), "{wrong} answers disagree")?.into());
+        return Err(format!(
+            rt.alloc(),
+            "{wrong} answer{} not the recorded one",
+            if wrong == 1 { " is" } else { "s are" }
+        )?.into());
     }
     Ok(())
 }
 
 fn main(rt: LibcRuntime) -> Result<(), AnyError> {
-    rt.report(run(&rt))
+    match run(&rt) {
+        Ok(()) => Ok(()),
+        Err(error) => {
+            eprintln!(rt, "runner: {error}")?;
+            Err(error)
+        }
+    }
 }
+
+#[cfg(test)]
+mod tests;

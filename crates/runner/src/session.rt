@@ -8,7 +8,9 @@ use std::fmt;
 use stream::Answer;
 use stream::Call;
 use stream::Fault;
+use stream::FaultDebug;
 use stream::FaultDisplay;
+use stream::FaultPartialEq;
 use stream::Form;
 use stream::agrees;
 use stream::content;
@@ -17,16 +19,18 @@ use stream::read_answer;
 use stream::read_call;
 
 // Why a replay stops.
-#[derive(Clone, Copy)]
+#[derive(Clone, Copy, PartialEq, Eq, Debug)]
 pub enum Trouble {
     Row(Fault),
-    // a call before the first bus
+    // a call before the first bus, or no bus at all
     NoBus,
     // an answer where no call waits for one
     NoCall,
     // a call that still waits for its answer
     NoAnswer,
-    Unmade(Unmade),
+    // a call that this build does not have yet, by its name
+    NotYet(&'static str),
+    OutOfMemory,
 }
 
 impl From<Fault> for Trouble as TroubleFromFault {
@@ -35,26 +39,28 @@ impl From<Fault> for Trouble as TroubleFromFault {
     }
 }
 
-impl From<Unmade> for Trouble as TroubleFromUnmade {
-    fn from(unmade: Unmade) -> Trouble {
-        Trouble::Unmade(unmade)
-    }
-}
-
 pub impl fmt::Display for Trouble as TroubleDisplay {
     fn fmt<W: fmt::Write>(&self, f: &mut fmt::Formatter<W>) -> fmt::Result {
         match self {
             Trouble::Row(fault) => write!(f, "{fault}"),
-            Trouble::NoBus => f.write_str("a call comes before the first 'bus'"),
-            Trouble::NoCall => f.write_str("an answer comes where no call waits for one"),
+            Trouble::NoBus => f.write_str("there is no 'bus' row before this"),
+            Trouble::NoCall => f.write_str("there is an answer, and no call waits for one"),
             Trouble::NoAnswer => f.write_str("the call before this has no recorded answer"),
-            Trouble::Unmade(Unmade::NotYet) => f.write_str(
-                "this build does not have this call yet",
-            ),
-            Trouble::Unmade(Unmade::OutOfMemory) => f.write_str(
-                "there is no memory for the buffer",
-            ),
+            Trouble::NotYet(name) => write!(f, "this build does not have the call '{name}' yet"),
+            Trouble::OutOfMemory => f.write_str("there is no memory for the buffer"),
         }
+    }
+}
+
+fn name_of(call: &Call) -> &'static str {
+    match call {
+        Call::Bus { .. } => "bus",
+        Call::Open { .. } => "open",
+        Call::Line { .. } => "line",
+        Call::Message { .. } => "message",
+        Call::Tick { .. } => "tick",
+        Call::Take { .. } => "take",
+        Call::Close { .. } => "close",
     }
 }
 
@@ -88,10 +94,6 @@ impl Session {
         }
     }
 
-    pub fn tally(&self) -> Tally {
-        self.tally
-    }
-
     // One row of the stream.
     pub fn row(&mut self, heap: Global, row: &[u8]) -> Result<Option<Disagreement>, Trouble> {
         let text = content(row);
@@ -106,8 +108,17 @@ impl Session {
         Ok(None)
     }
 
-    // The end of the stream.
-    pub fn end(&self) -> Result<(), Trouble> {
+    // The end of the stream: what was accomplished.
+    pub fn end(&self) -> Result<Tally, Trouble> {
+        self.ready()?;
+        if self.tally.buses == 0 {
+            return Err(Trouble::NoBus);
+        }
+        Ok(self.tally)
+    }
+
+    // That no call waits for its answer.
+    fn ready(&self) -> Result<(), Trouble> {
         if self.waiting.is_some() {
             return Err(Trouble::NoAnswer);
         }
@@ -115,7 +126,7 @@ impl Session {
     }
 
     fn make(&mut self, heap: Global, call: &Call) -> Result<(), Trouble> {
-        self.end()?;
+        self.ready()?;
         if let Call::Bus { limit: _, id } = call {
             self.lives = Some(Lives::new(*id));
             self.tally.note(call, &Answer::Done);
@@ -124,7 +135,11 @@ impl Session {
         let Some(mut lives) = self.lives.take() else {
             return Err(Trouble::NoBus);
         };
-        let came = perform(heap, &mut lives, call)?;
+        let came = match perform(heap, &mut lives, call) {
+            Ok(came) => came,
+            Err(Unmade::NotYet) => return Err(Trouble::NotYet(name_of(call))),
+            Err(Unmade::OutOfMemory) => return Err(Trouble::OutOfMemory),
+        };
         if let (Call::Line { connection, .. }, Answer::Wrote(_)) = (call, &came) {
             if lives.has_begun(*connection) {
                 self.tally.finished = self.tally.finished.saturating_add(1);
