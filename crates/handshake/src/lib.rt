@@ -4,5 +4,3 @@ pub mod credential;
 pub mod machine;
 pub mod parse;
 pub mod reply;
-#[cfg(test)]
-mod tests;

@@ -1,13 +1,13 @@
 -- A text cut at its spaces, and words joined by spaces.
-use mathlib.Core.Path.{_≡_, refl, sym, ap, subst, _∙_}
-use mathlib.Core.Bool.{Bool, true, false, cond, not, _&&_}
+use mathlib.Core.Path.{_≡_, refl, sym, ap, _∙_}
+use mathlib.Core.Bool.{Bool, true, not, _&&_}
 use mathlib.Core.List.{List, [], _∷_, _++_, append-nil}
 use mathlib.Core.Logic.{inl, inr}
-use Prim.Native.Nat.{ℕ, zero, suc, _+_, _<_, _≤_, suc-le-suc}
+use Prim.Native.Nat.{ℕ, zero, suc, _+_, _<_, suc-le-suc}
 use native.Mathlib.Omega.{arith}
 use lib.Dec.{eqb}
 use lib.ListN.{length, getD, take, drop}
-use Rattle.std.proofs.shelf.Lists.{getD-take, length-take-le, drop-more, take-append-drop, take-all}
+use Rattle.std.proofs.shelf.Lists.{getD-take, length-take-le, drop-more, take-append-drop}
 use Rattle.std.proofs.shelf.Tests.{ne-eqb, eqb-true, eqb-false, cases-bool, and-parts, not-true}
 use Rattle.stream.specs.Spelling.{led, spaced, Without}
 use Rattle.stream.specs.Text.{first, others, cut}
@@ -78,3 +78,6 @@ cut-at text i l before at =
     sym (take-append-drop i text) ∙ ap (λ (t : List ℕ). take i text ++ t) (drop-more text i 0 l ∙ ap (λ x. x ∷ drop (i + 1) text) at) in
     ap cut e ∙ cut-word (take i text) (drop (i + 1) text)
     (λ k h z. before k (omega (arith, length-take-le i text (omega arith))) (sym (getD-take i text k 0 (omega (arith, length-take-le i text (omega arith)))) ∙ z))
+
+pub same-first : (text : List ℕ) {w : List ℕ} {ws : List (List ℕ)} → cut text ≡ w ∷ ws → first text ≡ w
+same-first text e = cc

@@ -1,11 +1,10 @@
 -- From the words of an answer to its row.
 use mathlib.Core.Path.{_≡_, refl, sym, ap, subst, _∙_}
 use mathlib.Core.List.{List, [], _∷_}
-use mathlib.Core.Logic.{_⊎_, inl, inr}
-use Prim.Native.Nat.{ℕ, _^_, _<_}
+use mathlib.Core.Logic.{inl, inr}
+use Prim.Native.Nat.{ℕ}
 use native.Mathlib.Omega.{arith}
 use Rattle.std.specs.Of.Vec.{vec-items}
-use Rattle.std.specs.Written.{decimal}
 use Rattle.std.specs.declared.result.Result.{Result}
 use Rattle.std.specs.declared.result.Result.the-variants.{Ok, Err}
 use Rattle.stream.specs.Replies.{mark, parts, spelled, Within, Fits, Reads, Value, Accepted, Refusal, Denied}
@@ -15,7 +14,7 @@ use Rattle.stream.specs.declared.answer.Answer.{Answer}
 use Rattle.stream.specs.declared.answer.Answer.the-variants.{Done, Wrote, Routed, Refused, Malformed}
 use Rattle.stream.specs.declared.answer.Form.{Form}
 use Rattle.stream.specs.declared.fault.Fault.{Fault}
-use Rattle.stream.proofs.Cuts.{Solid, cut-spaced, spaced-cut, without-clear}
+use Rattle.stream.proofs.Cuts.{same-first, Solid, cut-spaced, spaced-cut, without-clear}
 use Rattle.stream.proofs.Pairs.{without-hex}
 use Rattle.stream.proofs.Numbers.{without-space}
 
@@ -59,12 +58,18 @@ joined row m ws a e p q =
 
 pub by-accepted : (f : Form) (row : List ℕ) (ws : List (List ℕ)) (r : Result Answer Fault) → cut row ≡ (61 ∷ []) ∷ ws → Accepted f ws r → Reads f row r
 by-accepted f row ws (Ok a) e h = (joined row 61 ws a e (h .0) (h .1), h .2, h .3)
-by-accepted f row ws (Err x) e h = λ ne a within fits s.
-    let w = words row 61 ws a e within s in
-    h ne (subst (Value f) (w .1) (value f a (w .0) within fits))
+by-accepted f row ws (Err x) e h = (
+  λ o. (h .0 o, same-first row e),
+  λ ne a within fits s.
+      let w = words row 61 ws a e within s in
+      h .1 ne (subst (Value f) (w .1) (value f a (w .0) within fits)),
+)
 
 pub by-refused : (f : Form) (row : List ℕ) (ws : List (List ℕ)) (r : Result Answer Fault) → cut row ≡ (33 ∷ []) ∷ ws → Denied ws r → Reads f row r
 by-refused f row ws (Ok a) e h = (joined row 33 ws a e (h .0) (h .1), h .2, h .3 f)
-by-refused f row ws (Err x) e h = λ ne a within fits s.
-    let w = words row 33 ws a e within s in
-    h (subst Refusal (w .1) (refusal a (w .0) within))
+by-refused f row ws (Err x) e h = (
+  λ o. absurd (h .0 o),
+  λ ne a within fits s.
+      let w = words row 33 ws a e within s in
+      h .1 (subst Refusal (w .1) (refusal a (w .0) within)),
+)

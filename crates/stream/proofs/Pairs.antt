@@ -8,7 +8,9 @@ use lib.ListN.{length, getD, take, drop}
 use Rattle.std.proofs.shelf.Lists.{take-more, getD-append-left, getD-push, length-push}
 use Rattle.std.proofs.shelf.Tests.{cases-lt}
 use Rattle.std.proofs.shelf.Ways.{tells}
-use Rattle.stream.specs.Spelling.{digit, pairs, hex, Bytes, Without}
+use Rattle.hex.specs.Hex.{digit, pairs}
+use Rattle.hex.proofs.Pairs.{length-pairs}
+use Rattle.stream.specs.Spelling.{hex, Bytes, Without}
 
 pairs-push : (bs more : List ℕ) (b : ℕ) → pairs (bs ++ (b ∷ [])) ++ more ≡ pairs bs ++ (digit (b / 16) ∷ (digit (b % 16) ∷ more))
 pairs-push [] more b = refl
@@ -75,14 +77,6 @@ no-low left two none (b ∷ bs) all e = none (b % 16) (omega arith) (ap (λ (t :
 pub no-odd : (left : List ℕ) → length left ≡ 1 → NoPairs left
 no-odd left one [] all e = omega (arith, ap length e)
 no-odd left one (b ∷ bs) all e = omega (arith, ap length e)
-
-pub no-none : (text : List ℕ) → length text ≡ 0 → (bs : List ℕ) → text ≡ hex bs → ⊥
-no-none text none [] e = omega (arith, ap length e)
-no-none text none (b ∷ bs) e = omega (arith, ap length e)
-
-length-pairs : (bs : List ℕ) → length (pairs bs) ≡ 2 * length bs
-length-pairs [] = refl
-length-pairs (b ∷ bs) = omega (arith, length-pairs bs)
 
 pub hex-some : (bs : List ℕ) → 0 < length bs → hex bs ≡ pairs bs
 hex-some bs h = hex-pairs bs (omega (arith, length-pairs bs))

@@ -1,8 +1,8 @@
 -- What stands after '!'.
 use mathlib.Core.Path.{_≡_, sym, ap, subst, _∙_}
 use mathlib.Core.List.{List, [], _∷_}
-use mathlib.Core.Logic.{_⊎_, inl, inr}
-use Prim.Native.Nat.{ℕ, _^_, _<_, _≤_}
+use mathlib.Core.Logic.{inl, inr}
+use Prim.Native.Nat.{ℕ, _≤_}
 use native.Mathlib.Omega.{arith}
 use Rattle.std.specs.Written.{decimal}
 use Rattle.std.specs.declared.result.Result.{Result}
@@ -27,10 +27,13 @@ module _ (ws left : List (List ℕ)) (m : ℕ) where
 
   pub by-place : (r : Result Answer Fault) → ws ≡ decimal m ∷ left → m ≡ 7 → Placed left r → Denied ws r
   by-place (Ok a) e z h = (h .0, e ∙ ap (λ n. decimal n ∷ left) z ∙ h .1, h .2, h .3)
-  by-place (Err x) e z h = λ d. elim d [
-    | inl s ↦ s .3 (sym (same (s .0) (omega arith) (s .2) e (s .4)) ∙ z)
-    | inr s ↦ h (subst Place (rest-same (s .1) e) (s .2))
-  ]
+  by-place (Err x) e z h = (
+    h .0,
+    λ d. elim d [
+      | inl s ↦ s .3 (sym (same (s .0) (omega arith) (s .2) e (s .4)) ∙ z)
+      | inr s ↦ h .1 (subst Place (rest-same (s .1) e) (s .2))
+    ],
+  )
 
   pub more-words : ws ≡ decimal m ∷ left → m ≤ 14 → (m ≡ 7 → ⊥) → (left ≡ [] → ⊥) → Refusal ws → ⊥
   more-words e small other more (inl s) = more (rest-same e (s .4))

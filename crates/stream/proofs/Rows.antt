@@ -1,17 +1,16 @@
 -- From the words of a call to its row.
 use mathlib.Core.Path.{_≡_, refl, sym, ap, subst, _∙_}
 use mathlib.Core.Bool.{cond}
-use mathlib.Core.List.{List, [], _∷_}
-use Prim.Native.Nat.{ℕ, _^_, _<_}
+use mathlib.Core.List.{List, _∷_}
+use Prim.Native.Nat.{ℕ}
 use native.Mathlib.Omega.{arith}
 use lib.Dec.{eqb}
 use lib.ListN.{getD}
 use Rattle.std.specs.Of.Vec.{vec-items}
-use Rattle.std.specs.Written.{decimal}
 use Rattle.std.specs.declared.result.Result.{Result}
 use Rattle.std.specs.declared.result.Result.the-variants.{Ok, Err}
-use Rattle.stream.specs.Calls.{verb-of, arguments, spelled, Within, Arguments, Reads}
-use Rattle.stream.specs.Spelling.{hex, pairs, digit, spaced, Bytes, Without}
+use Rattle.stream.specs.Calls.{verb-of, arguments, Within, Arguments, Reads}
+use Rattle.stream.specs.Spelling.{spaced}
 use Rattle.stream.specs.Text.{cut}
 use Rattle.stream.specs.Verbs.{name, Shape}
 use Rattle.stream.specs.declared.call.Call.{Call}
@@ -19,7 +18,7 @@ use Rattle.stream.specs.declared.call.Call.the-variants.{Bus, Open, Line, Mess
 use Rattle.stream.specs.declared.call.Verb.{Verb}
 use Rattle.stream.specs.declared.call.Verb.the-variants as verb
 use Rattle.stream.specs.declared.fault.Fault.{Fault}
-use Rattle.stream.proofs.Cuts.{Solid, cut-spaced, spaced-cut, without-clear}
+use Rattle.stream.proofs.Cuts.{same-first, Solid, cut-spaced, spaced-cut, without-clear}
 use Rattle.stream.proofs.Pairs.{without-hex}
 use Rattle.stream.proofs.Numbers.{without-space}
 
@@ -67,8 +66,11 @@ solid (Close c) h = (without-clear (name verb.Close) refl, (without-space c (ome
 pub by-words : (row : List ℕ) (v : Verb) (ws : List (List ℕ)) (r : Result Call Fault) → cut row ≡ name v ∷ ws → Arguments v ws r → Reads row r
 by-words row v ws (Ok call) e h =
     (sym (spaced-cut row) ∙ ap spaced (e ∙ ap (λ (u : Verb). name u ∷ ws) (sym (h .0)) ∙ ap (λ (t : List (List ℕ)). name (verb-of call) ∷ t) (h .1)), h .2)
-by-words row v ws (Err x) e h = λ ne call within s.
-    let f : name v ∷ ws ≡ name (verb-of call) ∷ arguments call = sym e ∙ ap cut s ∙ cut-spaced (name (verb-of call)) (arguments call) (solid call within) in
-    let g : name v ≡ name (verb-of call) = cc in
-    let a : arguments call ≡ ws = cc in
-    h ne (subst (λ (u : Verb). Shape u ws) (same-verb (verb-of call) v (sym g)) (subst (Shape (verb-of call)) a (shape call within)))
+by-words row v ws (Err x) e h = (
+  λ o. (v, h .0 o, same-first row e),
+  λ ne call within s.
+      let f : name v ∷ ws ≡ name (verb-of call) ∷ arguments call = sym e ∙ ap cut s ∙ cut-spaced (name (verb-of call)) (arguments call) (solid call within) in
+      let g : name v ≡ name (verb-of call) = cc in
+      let a : arguments call ≡ ws = cc in
+      h .1 ne (subst (λ (u : Verb). Shape u ws) (same-verb (verb-of call) v (sym g)) (subst (Shape (verb-of call)) a (shape call within))),
+)

@@ -2,7 +2,6 @@
 use mathlib.Core.Path.{_≡_}
 use mathlib.Core.List.{List, [], _∷_}
 use Prim.Native.Nat.{ℕ, _^_, _<_, _≤_}
-use lib.Chars.{codes}
 use lib.ListN.{length}
 use Rattle.std.specs.Of.Vec.{vec-items}
 use Rattle.std.specs.Written.{decimal}
@@ -11,7 +10,8 @@ use Rattle.std.specs.declared.option.Option.the-variants.{None, Some}
 use Rattle.std.specs.declared.result.Result.{Result}
 use Rattle.std.specs.declared.result.Result.the-variants.{Ok, Err}
 use Rattle.stream.specs.Spelling.{hex, spaced, Bytes}
-use Rattle.stream.specs.Verbs.{name, Shape}
+use Rattle.stream.specs.Text.{first}
+use Rattle.stream.specs.Verbs.{name, Carries, Shape}
 use Rattle.stream.specs.declared.answer.Form.{Form}
 use Rattle.stream.specs.declared.answer.Form.the-variants as form
 use Rattle.stream.specs.declared.call.Call.{Call}
@@ -57,12 +57,14 @@ Within (Close c) = c < 2 ^ 8
 -- what is read of the words ws after the name of v
 abbrev pub Arguments : Verb → List (List ℕ) → Result Call Fault → Type 0
 Arguments v ws (Ok call) = (verb-of call ≡ v) × (ws ≡ arguments call) × Within call
-Arguments v ws (Err e) = (e ≡ OutOfMemory → ⊥) → Shape v ws → ⊥
+Arguments v ws (Err e) = (e ≡ OutOfMemory → Carries v) × ((e ≡ OutOfMemory → ⊥) → Shape v ws → ⊥)
 
--- what is read of a row: the call that it spells, and no call is refused but for want of memory
+-- what is read of a row: the call that it spells; no call is refused but for want of memory, and only one with bytes
 abbrev pub Reads : List ℕ → Result Call Fault → Type 0
 Reads row (Ok call) = (row ≡ spelled call) × Within call
-Reads row (Err e) = (e ≡ OutOfMemory → ⊥) → (call : Call) → Within call → row ≡ spelled call → ⊥
+Reads row (Err e) =
+    (e ≡ OutOfMemory → (v : Verb) × Carries v × (first row ≡ name v))
+    × ((e ≡ OutOfMemory → ⊥) → (call : Call) → Within call → row ≡ spelled call → ⊥)
 
 -- what the answer of an accepted call holds; `bus` has no answer
 abbrev pub form-of : Call → Option Form

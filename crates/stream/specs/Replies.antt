@@ -9,6 +9,7 @@ use Rattle.std.specs.Written.{decimal}
 use Rattle.std.specs.declared.result.Result.{Result}
 use Rattle.std.specs.declared.result.Result.the-variants.{Ok, Err}
 use Rattle.stream.specs.Spelling.{hex, spaced, Bytes}
+use Rattle.stream.specs.Text.{first}
 use Rattle.stream.specs.declared.answer.Answer.{Answer}
 use Rattle.stream.specs.declared.answer.Answer.the-variants.{Done, Wrote, Routed, Refused, Malformed}
 use Rattle.stream.specs.declared.answer.Form.{Form}
@@ -67,10 +68,12 @@ said (Routed placed missed) = routed placed missed
 said (Refused n) = refused n
 said (Malformed part cause byte) = malformed part cause byte
 
--- what is read of a row: the answer that it spells, and no answer is refused but for want of memory
+-- what is read of a row: the answer that it spells; none is refused but for want of memory, and only one with bytes
 abbrev pub Reads : Form → List ℕ → Result Answer Fault → Type 0
 Reads f row (Ok a) = (row ≡ spelled a) × Within a × Fits f a
-Reads f row (Err e) = (e ≡ OutOfMemory → ⊥) → (a : Answer) → Within a → Fits f a → row ≡ spelled a → ⊥
+Reads f row (Err e) =
+    (e ≡ OutOfMemory → (f ≡ form.Bytes) × (first row ≡ 61 ∷ []))
+    × ((e ≡ OutOfMemory → ⊥) → (a : Answer) → Within a → Fits f a → row ≡ spelled a → ⊥)
 
 -- ws are the words after '=', for some values within their ranges
 abbrev pub Value : Form → List (List ℕ) → Type 0
@@ -81,7 +84,7 @@ Value form.Counts ws = (placed : ℕ) × (missed : ℕ) × (placed < 2 ^ 8) × (
 -- what is read of the words ws after '='
 abbrev pub Accepted : Form → List (List ℕ) → Result Answer Fault → Type 0
 Accepted f ws (Ok a) = (mark a ≡ 61) × (ws ≡ parts a) × Within a × Fits f a
-Accepted f ws (Err e) = (e ≡ OutOfMemory → ⊥) → Value f ws → ⊥
+Accepted f ws (Err e) = (e ≡ OutOfMemory → f ≡ form.Bytes) × ((e ≡ OutOfMemory → ⊥) → Value f ws → ⊥)
 
 -- ws are the words after '! 7'
 abbrev pub Place : List (List ℕ) → Type 0
@@ -90,7 +93,7 @@ Place ws = (part : ℕ) × (cause : ℕ) × (byte : ℕ) × (part < 2 ^ 8) × (c
 -- what is read of the words ws after '! 7'
 abbrev pub Placed : List (List ℕ) → Result Answer Fault → Type 0
 Placed ws (Ok a) = (mark a ≡ 33) × (decimal 7 ∷ ws ≡ parts a) × Within a × ((f : Form) → Fits f a)
-Placed ws (Err e) = Place ws → ⊥
+Placed ws (Err e) = (e ≡ OutOfMemory → ⊥) × (Place ws → ⊥)
 
 -- ws are the words after '!'
 abbrev pub Refusal : List (List ℕ) → Type 0
@@ -99,4 +102,4 @@ Refusal ws = ((n : ℕ) × (0 < n) × (n ≤ 14) × (n ≡ 7 → ⊥) × (ws ≡
 -- what is read of the words ws after '!'
 abbrev pub Denied : List (List ℕ) → Result Answer Fault → Type 0
 Denied ws (Ok a) = (mark a ≡ 33) × (ws ≡ parts a) × Within a × ((f : Form) → Fits f a)
-Denied ws (Err e) = Refusal ws → ⊥
+Denied ws (Err e) = (e ≡ OutOfMemory → ⊥) × (Refusal ws → ⊥)

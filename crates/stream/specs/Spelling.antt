@@ -1,19 +1,9 @@
 -- How numbers, bytes and words are written in a row.
 use mathlib.Core.Path.{_≡_}
-use mathlib.Core.Bool.{cond}
 use mathlib.Core.List.{List, [], _∷_, _++_}
-use Prim.Native.Nat.{ℕ, _+_, _/_, _%_, _<_}
-use lib.Dec.{ltb}
+use Prim.Native.Nat.{ℕ, _<_}
 use lib.ListN.{length, getD}
-
--- a lower-case hex digit
-abbrev pub digit : ℕ → ℕ
-digit d = cond (ltb d 10) (48 + d) (87 + d)
-
--- each byte as two hex digits
-abbrev pub pairs : List ℕ → List ℕ
-pairs [] = []
-pairs (b ∷ bs) = digit (b / 16) ∷ (digit (b % 16) ∷ pairs bs)
+use Rattle.hex.specs.Hex.{pairs}
 
 -- bytes as a word: '-' for none
 abbrev pub hex : List ℕ → List ℕ

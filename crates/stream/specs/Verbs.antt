@@ -18,6 +18,16 @@ name Tick = codes "tick"
 name Take = codes "take"
 name Close = codes "close"
 
+-- a word after the name is bytes
+abbrev pub Carries : Verb → Type 0
+Carries Bus = Unit {0}
+Carries Open = ⊥
+Carries Line = Unit {0}
+Carries Message = Unit {0}
+Carries Tick = ⊥
+Carries Take = ⊥
+Carries Close = ⊥
+
 -- ws are the words after the name, for some values within their ranges
 abbrev pub Shape : Verb → List (List ℕ) → Type 0
 Shape Bus ws = (limit : ℕ) × (id : List ℕ) × (limit ≤ 16) × (length id ≡ 16) × Bytes id × (ws ≡ decimal limit ∷ (hex id ∷ []))

@@ -40,7 +40,7 @@ pub impl fmt::Display for Fault as FaultDisplay {
                 Fault::WrongCount => "the row has too few or too many words",
                 Fault::BadNumber => "a number is malformed or too large",
                 Fault::BadHex => "bytes are not written as pairs of lower-case hex digits",
-                Fault::WrongLength => "the number of bytes is not the one given",
+                Fault::WrongLength => "the row has too many or too few bytes",
                 Fault::OutOfMemory => "there is not enough memory",
             },
         )

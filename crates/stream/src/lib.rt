@@ -22,6 +22,3 @@ pub use fault::FaultDisplay;
 pub use fault::FaultPartialEq;
 pub use text::content;
 pub use text::unhex;
-
-#[cfg(test)]
-mod tests;

@@ -3,11 +3,12 @@ ghost use mathlib.Core.Path.{_≡_};
 ghost use mathlib.Core.List.{List};
 ghost use Prim.Native.Nat.{ℕ, _^_, _<_, _≤_};
 ghost use lib.ListN.{length, getD};
+ghost use Rattle.hex.specs.Hex.{digit};
 ghost use Rattle.std.specs.Of.Vec.{vec-items};
 ghost use Rattle.std.specs.Options.{Cases as BySome};
 ghost use Rattle.std.specs.Results.{Cases};
 ghost use Rattle.std.specs.Written.{decimal};
-ghost use Rattle.stream.specs.Spelling.{digit, hex, Bytes, Without};
+ghost use Rattle.stream.specs.Spelling.{hex, Bytes};
 ghost use Rattle.stream.specs.Text.{Content};
 ghost use Rattle.stream.specs.declared.fault.Fault.the-variants.{OutOfMemory};
 use crate::fault::Fault;
@@ -70,7 +71,7 @@ fn nibble(c: u8) -> Option<u8>
 
 // The bytes that `text` writes, each as two lower-case hex digits, or none as `-`.
 pub fn unhex(heap: Global, text: &[u8]) -> Result<Vec<u8>, Fault>
-    ensures { λ r. ⌜ Cases r (λ v. Bytes (vec-items v) × (now (text .entry) ≡ hex (vec-items v))) (λ e. (e ≡ OutOfMemory → ⊥) → (bs : List ℕ) → Bytes bs → now (text .entry) ≡ hex bs → ⊥) ⌝ }
+    ensures { λ r. ⌜ Cases r (λ v. Bytes (vec-items v) × (now (text .entry) ≡ hex (vec-items v))) (λ e. (e ≡ OutOfMemory → 1 < length (now (text .entry))) × ((e ≡ OutOfMemory → ⊥) → (bs : List ℕ) → Bytes bs → now (text .entry) ≡ hex bs → ⊥)) ⌝ }
 {
     let mut bytes = Vec::new(heap);
     if text == b"-" {

@@ -44,7 +44,7 @@ impl<'a> Words<'a> {
 
     // The next word as a number up to `limit`.
     pub(crate) fn number(&mut self, limit: u64) -> Result<u64, Fault>
-        ensures { λ r. ⌜ Cases r (λ n. (n ≤ limit) × (left (now (self .entry)) ≡ decimal n ∷ left (now (self .exit)))) (λ _. (n : ℕ) (ws : List (List ℕ)) → n ≤ limit → left (now (self .entry)) ≡ decimal n ∷ ws → ⊥) ⌝ }
+        ensures { λ r. ⌜ Cases r (λ n. (n ≤ limit) × (left (now (self .entry)) ≡ decimal n ∷ left (now (self .exit)))) (λ e. (e ≡ OutOfMemory → ⊥) × ((n : ℕ) (ws : List (List ℕ)) → n ≤ limit → left (now (self .entry)) ≡ decimal n ∷ ws → ⊥)) ⌝ }
     {
         let Some(text) = self.word() else {
             return Err(Fault::WrongCount);
@@ -67,7 +67,7 @@ impl<'a> Words<'a> {
 
     // That no word is left.
     pub(crate) fn end(&self) -> Result<(), Fault>
-        ensures { λ r. ⌜ Cases r (λ _. left (now (self .entry)) ≡ []) (λ _. left (now (self .entry)) ≡ [] → ⊥) ⌝ }
+        ensures { λ r. ⌜ Cases r (λ _. left (now (self .entry)) ≡ []) (λ e. (e ≡ OutOfMemory → ⊥) × (left (now (self .entry)) ≡ [] → ⊥)) ⌝ }
     {
         match self.rest {
             Some(_) => Err(Fault::WrongCount),

@@ -30,7 +30,7 @@ loop-b-again c =
     in
     let here : c .loop-b .end ≡ c .args .at + length done = omega arith in
     let joined = written-more (c .args .at) done two (c .args .out .now) (omega arith) in
-    let both = c .pair .ensures in
+    let both = c .pair .ensures .digits in
     let wrote = c .put-end .ensures .after in
     let was = c .loop-b .inv .1 in
     (omega arith, cc)

@@ -8,15 +8,24 @@ use Rattle.stream.proofs.call.read_line.Needs as need
 
 pub returns-in-Break-connection : need.returns-in-Break-connection
 returns-in-Break-connection c =
-    stopped (Arguments _ _) (c .from-residual .result) _ (c .from-residual .ensures .1) (λ ne s.
-    c .in-Break-connection .ensures tt (s .0) (hex (s .1) ∷ (decimal (s .2) ∷ [])) (omega arith) (s .6))
+    stopped (Arguments _ _) (c .from-residual .result) _ (c .from-residual .ensures .1) (
+      λ o. absurd (c .in-Break-connection .ensures tt .0 o),
+      λ ne s.
+          c .in-Break-connection .ensures tt .1 (s .0) (hex (s .1) ∷ (decimal (s .2) ∷ [])) (omega arith) (s .6),
+    )
 
 pub returns-in-Break-bytes : need.returns-in-Break-bytes
 returns-in-Break-bytes c =
-    stopped (Arguments _ _) (c .from-residual-in-Break-bytes .result) _ (c .from-residual-in-Break-bytes .ensures .1) (λ ne s.
-    c .in-Break-bytes .ensures tt ne (s .1) (decimal (s .2) ∷ []) (s .4) (rest-same (c .in-Continue-connection .ensures tt .1) (s .6)))
+    stopped (Arguments _ _) (c .from-residual-in-Break-bytes .result) _ (c .from-residual-in-Break-bytes .ensures .1) (
+      λ _. tt,
+      λ ne s.
+          c .in-Break-bytes .ensures tt ne (s .1) (decimal (s .2) ∷ []) (s .4) (rest-same (c .in-Continue-connection .ensures tt .1) (s .6)),
+    )
 
 pub returns-in-Break-size : need.returns-in-Break-size
 returns-in-Break-size c =
-    stopped (Arguments _ _) (c .from-residual-in-Break-size .result) _ (c .from-residual-in-Break-size .ensures .1) (λ ne s.
-    c .in-Break-size .ensures tt (s .2) [] (omega arith) (rest-same (c .in-Continue-bytes .ensures tt .1) (rest-same (c .in-Continue-connection .ensures tt .1) (s .6))))
+    stopped (Arguments _ _) (c .from-residual-in-Break-size .result) _ (c .from-residual-in-Break-size .ensures .1) (
+      λ o. absurd (c .in-Break-size .ensures tt .0 o),
+      λ ne s.
+          c .in-Break-size .ensures tt .1 (s .2) [] (omega arith) (rest-same (c .in-Continue-bytes .ensures tt .1) (rest-same (c .in-Continue-connection .ensures tt .1) (s .6))),
+    )

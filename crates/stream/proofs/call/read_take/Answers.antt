@@ -7,10 +7,16 @@ use Rattle.stream.proofs.call.read_take.Needs as need
 
 pub returns-in-Break-connection : need.returns-in-Break-connection
 returns-in-Break-connection c =
-    stopped (Arguments _ _) (c .from-residual .result) _ (c .from-residual .ensures .1) (λ ne s.
-    c .in-Break-connection .ensures tt (s .0) (decimal (s .1) ∷ []) (omega arith) (s .4))
+    stopped (Arguments _ _) (c .from-residual .result) _ (c .from-residual .ensures .1) (
+      λ o. absurd (c .in-Break-connection .ensures tt .0 o),
+      λ ne s.
+          c .in-Break-connection .ensures tt .1 (s .0) (decimal (s .1) ∷ []) (omega arith) (s .4),
+    )
 
 pub returns-in-Break-size : need.returns-in-Break-size
 returns-in-Break-size c =
-    stopped (Arguments _ _) (c .from-residual-in-Break-size .result) _ (c .from-residual-in-Break-size .ensures .1) (λ ne s.
-    c .in-Break-size .ensures tt (s .1) [] (omega arith) (rest-same (c .in-Continue-connection .ensures tt .1) (s .4)))
+    stopped (Arguments _ _) (c .from-residual-in-Break-size .result) _ (c .from-residual-in-Break-size .ensures .1) (
+      λ o. absurd (c .in-Break-size .ensures tt .0 o),
+      λ ne s.
+          c .in-Break-size .ensures tt .1 (s .1) [] (omega arith) (rest-same (c .in-Continue-connection .ensures tt .1) (s .4)),
+    )

@@ -1,10 +1,6 @@
-use mathlib.Core.Path.{_≡_, refl, sym, ap, subst, _∙_}
-use mathlib.Core.List.{List}
-use Prim.Native.Nat.{ℕ, _<_}
+use mathlib.Core.Path.{sym, _∙_}
 use native.Mathlib.Omega.{arith}
-use lib.ListN.{length, getD}
-use Rattle.std.specs.Reads.{ReadsUnsigned}
-use Rattle.stream.proofs.Numbers.{Number, parsed, at-first, no-none, no-plus, no-lead, no-utf8}
+use Rattle.stream.proofs.Numbers.{parsed, at-first, no-none, no-plus, no-lead, no-utf8}
 use Rattle.stream.proofs.text.number.Needs as need
 use Rattle.stream.proofs.text.number.Needs.{else-first-eq48·by·then-first-eq48·else-text-gt1, else-first-eq48·by·else-first-eq48}
 

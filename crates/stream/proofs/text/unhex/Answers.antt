@@ -1,14 +1,17 @@
 use mathlib.Core.Path.{_≡_, refl, sym, ap, subst, _∙_}
 use mathlib.Core.List.{List, [], _∷_, _++_, append-nil}
-use Prim.Native.Nat.{ℕ, _+_, _*_, _<_, _≤_}
+use Prim.Native.Nat.{ℕ, _+_, _*_}
 use native.Mathlib.Omega.{arith}
-use lib.ListN.{length, getD, drop}
+use lib.ListN.{length}
 use Rattle.std.specs.Of.Vec.{vec-items}
 use Rattle.std.proofs.shelf.Equals.{matches-decides}
-use Rattle.std.proofs.shelf.Lists.{take-rest, nil-from-length}
+use Rattle.std.proofs.shelf.Lists.{length-append, take-rest, nil-from-length}
 use Rattle.std.proofs.shelf.Tests.{both-ways, eqb-true, eqb-false}
+use Rattle.std.proofs.shelf.Results.{err-from-errBy}
 use Rattle.std.proofs.shelf.Parts.{pushed}
-use Rattle.stream.specs.Spelling.{pairs, hex, Bytes}
+use Rattle.hex.specs.Hex.{pairs}
+use Rattle.stream.specs.Spelling.{hex, Bytes}
+use Rattle.stream.proofs.Exits.{bad-hex}
 use Rattle.stream.proofs.Pairs.{pairs-step, bytes-push, hex-pairs, no-hex, no-high, no-low, no-odd}
 use Rattle.stream.proofs.text.unhex.Needs as need
 
@@ -19,16 +22,22 @@ returns-then-eq c = (
 )
 
 pub returns-in-rest : need.returns-in-rest
-returns-in-rest c _ =
-    no-hex (c .args .text .now) (vec-items (c .loop-rest .bytes)) (c .loop-rest .rest .now) (c .loop-rest .inv .1)
-    (λ e. both-ways (c .eq .result) (c .if-eq .left) (matches-decides _ _ _ (c .eq .ensures) .1 e))
-    (no-high (c .loop-rest .rest .now) (omega arith) (c .in-rest .ensures tt))
+returns-in-rest c = (
+  λ e. absurd (bad-hex e),
+  λ _.
+      no-hex (c .args .text .now) (vec-items (c .loop-rest .bytes)) (c .loop-rest .rest .now) (c .loop-rest .inv .1)
+      (λ e. both-ways (c .eq .result) (c .if-eq .left) (matches-decides _ _ _ (c .eq .ensures) .1 e))
+      (no-high (c .loop-rest .rest .now) (omega arith) (c .in-rest .ensures tt)),
+)
 
 pub returns-in-rest-nibble : need.returns-in-rest-nibble
-returns-in-rest-nibble c _ =
-    no-hex (c .args .text .now) (vec-items (c .loop-rest .bytes)) (c .loop-rest .rest .now) (c .loop-rest .inv .1)
-    (λ e. both-ways (c .eq .result) (c .if-eq .left) (matches-decides _ _ _ (c .eq .ensures) .1 e))
-    (no-low (c .loop-rest .rest .now) (omega arith) (c .in-rest-nibble .ensures tt))
+returns-in-rest-nibble c = (
+  λ e. absurd (bad-hex e),
+  λ _.
+      no-hex (c .args .text .now) (vec-items (c .loop-rest .bytes)) (c .loop-rest .rest .now) (c .loop-rest .inv .1)
+      (λ e. both-ways (c .eq .result) (c .if-eq .left) (matches-decides _ _ _ (c .eq .ensures) .1 e))
+      (no-low (c .loop-rest .rest .now) (omega arith) (c .in-rest-nibble .ensures tt)),
+)
 
 pub loop-rest-again : need.loop-rest-again
 loop-rest-again c =
@@ -44,7 +53,18 @@ returns-then-is-empty-2 c =
     (c .loop-rest .inv .0, e ∙ sym (hex-pairs (vec-items (c .loop-rest .bytes)) (omega (arith, ap length e, eqb-false (length (c .args .text .now)) 0 (sym (c .is-empty .ensures) ∙ c .if-is-empty .left)))))
 
 pub returns-else-is-empty-2 : need.returns-else-is-empty-2
-returns-else-is-empty-2 c _ =
-    no-hex (c .args .text .now) (vec-items (c .loop-rest .bytes)) (c .loop-rest .rest .now) (c .loop-rest .inv .1)
-    (λ e. both-ways (c .eq .result) (c .if-eq .left) (matches-decides _ _ _ (c .eq .ensures) .1 e))
-    (no-odd (c .loop-rest .rest .now) (omega (arith, eqb-false (length (c .loop-rest .rest .now)) 0 (sym (c .is-empty-2 .ensures) ∙ c .if-is-empty-2 .left))))
+returns-else-is-empty-2 c = (
+  λ e. absurd (bad-hex e),
+  λ _.
+      no-hex (c .args .text .now) (vec-items (c .loop-rest .bytes)) (c .loop-rest .rest .now) (c .loop-rest .inv .1)
+      (λ e. both-ways (c .eq .result) (c .if-eq .left) (matches-decides _ _ _ (c .eq .ensures) .1 e))
+      (no-odd (c .loop-rest .rest .now) (omega (arith, eqb-false (length (c .loop-rest .rest .now)) 0 (sym (c .is-empty-2 .ensures) ∙ c .if-is-empty-2 .left)))),
+)
+
+pub returns-in-Break-push : need.returns-in-Break-push
+returns-in-Break-push c =
+    let p = err-from-errBy (c .from-residual .result) (c .from-residual .ensures .1) in
+    rw (p .1) (
+      λ _. omega (arith, ap length (c .loop-rest .inv .1), length-append (pairs (vec-items (c .loop-rest .bytes))) (c .loop-rest .rest .now)),
+      λ ne. absurd (ne (p .2)),
+    )

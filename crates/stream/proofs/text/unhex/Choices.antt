@@ -2,7 +2,8 @@ use mathlib.Core.Path.{_≡_}
 use mathlib.Core.List.{_++_}
 use lib.ListN.{length}
 use Rattle.std.specs.Of.Vec.{vec-items}
-use Rattle.stream.specs.Spelling.{pairs, Bytes}
+use Rattle.hex.specs.Hex.{pairs}
+use Rattle.stream.specs.Spelling.{Bytes}
 use Rattle.stream.proofs.text.unhex.Given as given
 
 abbrev pub Inv-loop-rest : given.InvT-loop-rest

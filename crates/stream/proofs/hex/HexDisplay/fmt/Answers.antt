@@ -1,15 +1,15 @@
-use mathlib.Core.Path.{_≡_, refl, sym, ap, subst, _∙_}
-use mathlib.Core.List.{List, [], _∷_, _++_}
+use mathlib.Core.Path.{_≡_, sym, ap, _∙_}
+use mathlib.Core.List.{List, _++_}
 use Prim.Native.Nat.{ℕ, _+_}
 use native.Mathlib.Omega.{arith}
-use lib.ListN.{length, take}
+use lib.ListN.{length, getD, take}
 use lib.Utf8.{encode}
 use Rattle.std.specs.Results.{isOk}
 use Rattle.std.proofs.Writes.{put-more, put-is}
 use Rattle.std.proofs.shelf.Ascii.{encode-ascii}
 use Rattle.std.proofs.shelf.Lists.{take-all}
 use Rattle.std.proofs.shelf.Tests.{eqb-false}
-use Rattle.stream.specs.Spelling.{pairs}
+use Rattle.hex.specs.Hex.{pairs}
 use Rattle.stream.proofs.Pairs.{pairs-take, hex-some}
 use Rattle.stream.proofs.hex.HexDisplay.fmt.Needs as need
 
@@ -20,9 +20,12 @@ loop-b-again g c plain =
     let p = c .loop-b .inv plain in
     let q = c .write-char .ensures .prints (p .plain) (ap isOk (c .in-Continue-write-char .was tt)) in
     let r = c .write-char-in-loop-b .ensures .prints (q .plain) (ap isOk (c .in-Continue-write-char-2 .was tt)) in
-    let e : (pairs (take i xs) ++ encode (c .glyph .result)) ++ encode (c .glyph-in-loop-b .result) ≡ pairs (take (i + 1) xs) =
-    rw (encode-ascii (c .glyph .result) (c .glyph .ensures .ascii), encode-ascii (c .glyph-in-loop-b .result) (c .glyph-in-loop-b .ensures .ascii))
-    (pairs-take xs i (c .glyph .result) (c .glyph-in-loop-b .result) (c .loop-b-test .taken) (c .glyph .ensures .value) (c .glyph-in-loop-b .ensures .value)) in
+    let high = c .from .ensures ∙ ap (λ (r : List ℕ). getD r 0 0) (c .pair .ensures .digits) in
+    let low = c .from-in-loop-b .ensures ∙ ap (λ (r : List ℕ). getD r 1 0) (c .pair .ensures .digits) in
+    let e : (pairs (take i xs) ++ encode (c .from .result)) ++ encode (c .from-in-loop-b .result) ≡ pairs (take (i + 1) xs) =
+    rw (encode-ascii (c .from .result) (rw (c .from .ensures) (c .pair .ensures .ascii .0)), encode-ascii (c .from-in-loop-b .result) (rw (c .from-in-loop-b .ensures) (c .pair .ensures .ascii .1)))
+    (pairs-take xs i (c .from .result) (c .from-in-loop-b .result) (c .loop-b-test .taken) high low)
+    in
     put-is _ _ _ _ _ e (put-more _ _ _ _ _ _ (put-more _ _ _ _ _ _ p q) r)
 
 pub returns : need.returns

@@ -1,6 +1,6 @@
 use lib.ListN.{take}
 use Rattle.std.specs.Written.{Plain, Put}
-use Rattle.stream.specs.Spelling.{pairs}
+use Rattle.hex.specs.Hex.{pairs}
 use Rattle.stream.proofs.hex.HexDisplay.fmt.Given as given
 
 abbrev pub Inv-loop-b : given.InvT-loop-b

@@ -1,10 +1,10 @@
 // The examples of docs/handshake.md.
-use crate::conversation::converse;
-use crate::credential::shows;
-use crate::machine::Handshake;
-use crate::machine::Refusal;
-use crate::machine::RefusalDebug;
-use crate::machine::RefusalPartialEq;
+use handshake::conversation::converse;
+use handshake::credential::shows;
+use handshake::machine::Handshake;
+use handshake::machine::Refusal;
+use handshake::machine::RefusalDebug;
+use handshake::machine::RefusalPartialEq;
 use std::test::*;
 
 const ID: [u8; 16] = [

@@ -1,17 +1,18 @@
-use crate::answer::Answer;
-use crate::answer::AnswerDisplay;
-use crate::answer::Form;
-use crate::answer::agrees;
-use crate::answer::read_answer;
-use crate::call::Call;
-use crate::call::read_call;
-use crate::fault::Fault;
-use crate::fault::FaultDebug;
-use crate::fault::FaultDisplay;
-use crate::fault::FaultPartialEq;
-use crate::text::content;
+// Rows of a recorded stream, as docs/runner.md has them.
 use std::alloc::Global;
 use std::test::*;
+use stream::Answer;
+use stream::AnswerDisplay;
+use stream::Call;
+use stream::Fault;
+use stream::FaultDebug;
+use stream::FaultDisplay;
+use stream::FaultPartialEq;
+use stream::Form;
+use stream::agrees;
+use stream::content;
+use stream::read_answer;
+use stream::read_call;
 
 // Why a row is no call.
 fn fault_of(heap: Global, row: &[u8]) -> Option<Fault> {
