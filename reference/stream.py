@@ -148,10 +148,12 @@ def check(data: bytes) -> Counts:
     """Count the rows of a stream; raise Malformed at the first bad one."""
     counts = Counts()
     waits: str | None = None  # the call that waits for its answer
-    # Every byte is a character of its own here, so a comment may hold any.
-    lines = data.decode("latin-1").split("\n")
+    try:
+        lines = data.decode("utf-8").split("\n")
+    except UnicodeDecodeError as error:
+        raise Malformed(data[: error.start].count(b"\n") + 1, "not UTF-8") from None
     for number, line in enumerate(lines, start=1):
-        row = line.partition("#")[0].rstrip(" ")
+        row = line.removesuffix("\r").partition("#")[0].rstrip(" ")
         if not row:
             continue
         name, *words = row.split(" ")
@@ -185,6 +187,8 @@ def check(data: bytes) -> Counts:
             waits = name
     if waits is not None:
         raise Malformed(len(lines), f"the stream ends where a {waits} waits for its answer")
+    if counts.buses == 0:
+        raise Malformed(len(lines), "the stream has no bus")
     return counts
 
 

@@ -55,19 +55,16 @@ module _ (t : Table) (id line out : List ℕ) (c : ℕ) (h : Handshake) (is : li
   at-life : told t c h next answer ≡ lined t id c line (length out)
   at-life = sym (ap (λ (o : Option Handshake). hears o t id c line (length out)) is)
 
-  module _ (r : Result ℕ handshake.Refusal) (e : r ≡ counted answer) where
-    pub line-answer : answered r ≡ counted (lined t id c line (length out) .answer)
-    line-answer = ap answered e ∙ told-answer t c h next answer ∙ ap (λ (d : Done (List ℕ)). counted (d .answer)) at-life
-
-    pub line-lives : (k : Handshake) → k ≡ moved h next → kept t c k r ≡ lined t id c line (length out) .lives
-    line-lives k m =
-        ap (λ (j : Handshake). kept t c j r) m
+  -- the line's result, the handshake and the buffer after it say what the call answers and leaves
+  pub line-at : (r : Result ℕ handshake.Refusal) (k : Handshake) (after : List ℕ) → r ≡ counted answer → k ≡ moved h next → after ≡ filled answer out → (answered r ≡ counted (lined t id c line (length out) .answer)) × (kept t c k r ≡ lined t id c line (length out) .lives) × (after ≡ filled (lined t id c line (length out) .answer) out)
+  line-at r k after e m f = (
+    ap answered e ∙ told-answer t c h next answer ∙ ap (λ (d : Done (List ℕ)). counted (d .answer)) at-life,
+    ap (λ (j : Handshake). kept t c j r) m
         ∙ ap (kept t c (moved h next)) e
         ∙ told-lives t c h next answer
-        ∙ ap (λ (d : Done (List ℕ)). d .lives) at-life
-
-    pub line-buffer : (after : List ℕ) → after ≡ filled answer out → after ≡ filled (lined t id c line (length out) .answer) out
-    line-buffer after f = f ∙ told-buffer t c h next out answer ∙ ap (λ (d : Done (List ℕ)). filled (d .answer) out) at-life
+        ∙ ap (λ (d : Done (List ℕ)). d .lives) at-life,
+    f ∙ told-buffer t c h next out answer ∙ ap (λ (d : Done (List ℕ)). filled (d .answer) out) at-life,
+  )
 
 -- where the refusal is no early BEGIN, the table stays
 pub kept-refused : (t : Table) (c : ℕ) (h : Handshake) (e : handshake.Refusal) → (e ≡ EarlyBegin → ⊥) → t ≡ kept t c h (Err e)
