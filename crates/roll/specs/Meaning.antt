@@ -3,7 +3,7 @@ use mathlib.Core.List.{List}
 use Prim.Native.Nat.{ℕ}
 use Rattle.std.specs.Of.Vec.{vec-items}
 use Rattle.mailbox.specs.Lists.{Lists, tabled}
-use Rattle.records.specs.Records.{Record, decode, messages}
+use Rattle.roll_records.specs.Records.{Record, decode, messages}
 use Rattle.roll.specs.declared.Roll.{Roll}
 
 -- its records, in the order in which they were put

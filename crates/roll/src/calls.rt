@@ -4,7 +4,7 @@ ghost use mathlib.Core.Path.{_≡_};
 ghost use Prim.Native.Nat.{min, _/_};
 ghost use lib.ListN.{replicate};
 ghost use Rattle.std.specs.Of.Vec.{vec-items, vec-len};
-ghost use Rattle.records.proofs.Rows.{roll-laws};
+ghost use Rattle.roll_records.proofs.Rows.{roll-laws};
 ghost use Rattle.roll.specs.Meaning.{lists-of};
 use super::Roll;
 use super::layout::copy_message;

@@ -5,7 +5,7 @@ ghost use Prim.Native.Nat.{min, _+_, _/_, _<_, _≤_};
 ghost use lib.ListN.{length, take, drop};
 ghost use Rattle.std.specs.Results.{Cases};
 ghost use Rattle.area.specs.Writes.{written};
-ghost use Rattle.records.specs.Records.{head, encode, length-at, decode, before, Laid};
+ghost use Rattle.roll_records.specs.Records.{head, encode, length-at, decode, before, Laid};
 use area::store;
 use mailbox::CONNECTIONS;
 use mailbox::LONGEST;

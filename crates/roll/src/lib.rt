@@ -3,7 +3,7 @@ ghost use mathlib.Core.Path.{_≡_};
 ghost use Prim.Native.Nat.{ℕ, _*_, _≤_};
 ghost use lib.ListN.{length, getD};
 ghost use Rattle.std.specs.Of.Vec.{vec-items};
-ghost use Rattle.records.specs.Records.{encode, decode, Laid, Sound, Tallied};
+ghost use Rattle.roll_records.specs.Records.{encode, decode, Laid, Sound, Tallied};
 
 mod calls;
 mod layout;

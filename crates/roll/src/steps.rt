@@ -5,7 +5,7 @@ ghost use Prim.Native.Nat.{_+_, _<_, _≤_};
 ghost use lib.Dec.{ltb};
 ghost use lib.ListN.{length, getD};
 ghost use Rattle.std.specs.Of.Vec.{vec-items};
-ghost use Rattle.records.specs.Records.{record-of, without, First};
+ghost use Rattle.roll_records.specs.Records.{record-of, without, First};
 ghost use Rattle.roll.specs.Meaning.{row};
 use super::Roll;
 use super::layout::HEAD;

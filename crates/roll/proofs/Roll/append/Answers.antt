@@ -7,8 +7,8 @@ use Rattle.std.specs.Changed.{refilled}
 use Rattle.std.specs.Of.Vec.{vec-items, vec-len}
 use Rattle.std.proofs.shelf.Lists.{length-set, refilled-is}
 use Rattle.area.specs.Writes.{written}
-use Rattle.records.specs.Records.{record-of, head, decode, Sound, Tallied}
-use Rattle.records.proofs.Rows.{Put, put-row, room-for, few, decode-length, sound-push, tallied-put, fills-set}
+use Rattle.roll_records.specs.Records.{record-of, head, decode, Sound, Tallied}
+use Rattle.roll_records.proofs.Rows.{Put, put-row, room-for, few, decode-length, sound-push, tallied-put, fills-set}
 use Rattle.roll.specs.declared.Roll.{Roll}
 use Rattle.roll.specs.Meaning.{row}
 use Rattle.roll.proofs.Roll.append.Needs as need

@@ -4,8 +4,8 @@ use native.Mathlib.Omega.{arith}
 use lib.ListN.{length, getD, set}
 use Rattle.std.specs.Of.Vec.{vec-items}
 use Rattle.std.proofs.shelf.Lists.{getD-set-same, length-set}
-use Rattle.records.specs.Records.{decode, First, Sound, Tallied}
-use Rattle.records.proofs.Rows.{take-row, tallied-take, sound-without, fills-set, laid-length, counted-below}
+use Rattle.roll_records.specs.Records.{decode, First, Sound, Tallied}
+use Rattle.roll_records.proofs.Rows.{take-row, tallied-take, sound-without, fills-set, laid-length, counted-below}
 use Rattle.roll.specs.declared.Roll.{Roll}
 use Rattle.roll.specs.Meaning.{row}
 use Rattle.roll.proofs.Roll.close_up.Needs as need

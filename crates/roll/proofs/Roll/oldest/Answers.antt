@@ -3,8 +3,8 @@ use Prim.Native.Nat.{ℕ, _+_, _<_, _≤_}
 use native.Mathlib.Omega.{arith}
 use lib.ListN.{length, getD}
 use Rattle.std.specs.Of.Vec.{vec-items}
-use Rattle.records.specs.Records.{encode, length-at, before, First}
-use Rattle.records.proofs.Rows.{first-of}
+use Rattle.roll_records.specs.Records.{encode, length-at, before, First}
+use Rattle.roll_records.proofs.Rows.{first-of}
 use Rattle.roll.specs.declared.Roll.{Roll}
 use Rattle.roll.specs.Meaning.{row}
 use Rattle.roll.proofs.Roll.oldest.Needs as need

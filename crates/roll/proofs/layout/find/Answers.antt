@@ -4,8 +4,8 @@ use Prim.Native.Nat.{ℕ, _+_}
 use native.Mathlib.Omega.{arith}
 use lib.ListN.{length, drop, getD}
 use Rattle.std.proofs.shelf.Lists.{drop-all}
-use Rattle.records.specs.Records.{Record, record-of, encode, decode, before}
-use Rattle.records.proofs.Rows.{here-in, decode-length, before-step, before-stop}
+use Rattle.roll_records.specs.Records.{Record, record-of, encode, decode, before}
+use Rattle.roll_records.proofs.Rows.{here-in, decode-length, before-step, before-stop}
 use Rattle.roll.proofs.layout.find.Needs as need
 
 pub index-area-at : need.index-area-at

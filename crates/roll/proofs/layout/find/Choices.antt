@@ -2,7 +2,7 @@ use mathlib.Core.List.{_++_}
 use mathlib.Core.Path.{_≡_}
 use Prim.Native.Nat.{_+_}
 use lib.ListN.{length, drop}
-use Rattle.records.specs.Records.{encode, decode, before}
+use Rattle.roll_records.specs.Records.{encode, decode, before}
 use Rattle.roll.proofs.layout.find.Given as given
 
 -- the records from k on begin here, and so does the first of c among them

@@ -7,8 +7,8 @@ use Rattle.std.proofs.shelf.Lists.{nil-from-length, set-getD, set-set}
 use Rattle.std.proofs.shelf.Tests.{ltb-false, ltb-true}
 use Rattle.mailbox.specs.Lists.{Lists, waiting, clear-after}
 use Rattle.mailbox.proofs.Tables.{tabled-set}
-use Rattle.records.specs.Records.{messages, without}
-use Rattle.records.proofs.Rows.{counted, counted-below, messages-without}
+use Rattle.roll_records.specs.Records.{messages, without}
+use Rattle.roll_records.proofs.Rows.{counted, counted-below, messages-without}
 use Rattle.roll.specs.Meaning.{row, waits, lists-of}
 use Rattle.roll.proofs.calls.RollMailboxSet.clear.Needs as need
 

@@ -1,5 +1,5 @@
 use mathlib.Core.Path.{_∙_}
-use Rattle.records.proofs.Rows.{counted}
+use Rattle.roll_records.proofs.Rows.{counted}
 use Rattle.roll.specs.Meaning.{row}
 use Rattle.roll.proofs.calls.RollMailboxSet.count.Needs as need
 

@@ -5,8 +5,8 @@ use lib.ListN.{length}
 use Rattle.std.proofs.shelf.Tests.{le-ltb, ltb-false, ltb-true, or-from}
 use Rattle.mailbox.specs.Lists.{misfit}
 use Rattle.mailbox.proofs.Tables.{put-full, put-done}
-use Rattle.records.specs.Records.{messages}
-use Rattle.records.proofs.Rows.{counted, messages-put-here, messages-put-other}
+use Rattle.roll_records.specs.Records.{messages}
+use Rattle.roll_records.proofs.Rows.{counted, messages-put-here, messages-put-other}
 use Rattle.roll.specs.Meaning.{row, waits, lists-of}
 use Rattle.roll.proofs.calls.RollMailboxSet.put.Needs as need
 

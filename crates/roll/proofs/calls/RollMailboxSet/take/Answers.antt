@@ -9,8 +9,8 @@ use Rattle.std.proofs.shelf.Lists.{nil-from-length}
 use Rattle.std.proofs.shelf.Results.{err-from-errBy}
 use Rattle.std.proofs.shelf.Tests.{ltb-false, ltb-true}
 use Rattle.mailbox.proofs.Tables.{take-none, take-short, take-done}
-use Rattle.records.specs.Records.{messages, without}
-use Rattle.records.proofs.Rows.{counted, counted-below, laid-length, messages-without}
+use Rattle.roll_records.specs.Records.{messages, without}
+use Rattle.roll_records.proofs.Rows.{counted, counted-below, laid-length, messages-without}
 use Rattle.roll.specs.Meaning.{row, waits}
 use Rattle.roll.proofs.calls.RollMailboxSet.take.Needs as need
 

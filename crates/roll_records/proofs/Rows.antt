@@ -14,7 +14,7 @@ use Rattle.std.proofs.shelf.Tests.{cases-bool, cases-eq, cases-lt, cond-true, c
 use Rattle.area.specs.Writes.{written}
 use Rattle.mailbox.specs.Lists.{Laws, waiting, tabled}
 use Rattle.mailbox.proofs.Tables.{tabled-length, tabled-at, tabled-past}
-use Rattle.records.specs.Records.{Record, record-of, head, encode, length-at, decode, messages, before, behind, without, Laid, Good, Sound, Tallied, First}
+use Rattle.roll_records.specs.Records.{Record, record-of, head, encode, length-at, decode, messages, before, behind, without, Laid, Good, Sound, Tallied, First}
 
 -- one write behind another
 pub written-twice : (area xs ys : List ℕ) (at : ℕ) → at ≤ length area → written (written area at xs) (at + length xs) ys ≡ written area at (xs ++ ys)
