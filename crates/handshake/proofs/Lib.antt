@@ -3,4 +3,3 @@ mod Credentials
 mod Hearing
 mod Laws
 mod Reading
-mod Writing

@@ -1,8 +1,8 @@
 -- The texts of the handshake: what shows a uid, and what each answer says.
 use mathlib.Core.List.{List, [], _∷_, _++_}
-use Prim.Native.Nat.{ℕ, _+_}
+use Prim.Native.Nat.{ℕ}
 use lib.Chars.{codes}
-use lib.ListN.{length, take, drop}
+use lib.ListN.{length, drop}
 use Rattle.hex.specs.Hex.{pairs}
 use Rattle.std.specs.Written.{decimal}
 use Rattle.handshake.specs.declared.reply.Reply.{Reply}
@@ -26,7 +26,3 @@ wording id reply.Silence = []
 -- a text written onto the front of a buffer, whose rest stays
 abbrev pub onto : List ℕ → List ℕ → List ℕ
 onto text buffer = text ++ drop (length text) buffer
-
--- the same at a place
-abbrev pub written : ℕ → List ℕ → List ℕ → List ℕ
-written at text buffer = take at buffer ++ (text ++ drop (at + length text) buffer)

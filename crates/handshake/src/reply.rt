@@ -4,7 +4,9 @@ ghost use mathlib.Core.List.{_++_};
 ghost use Prim.Native.Nat.{_+_, _*_, _≤_, _<_};
 ghost use lib.ListN.{length, take, drop};
 ghost use Rattle.hex.specs.Hex.{pairs};
-ghost use Rattle.handshake.specs.Texts.{wording, onto, written};
+ghost use Rattle.area.specs.Writes.{written};
+ghost use Rattle.handshake.specs.Texts.{wording, onto};
+use area::store;
 use hex::pair;
 
 // The bytes that the longest answer takes: OK, a space, 32 hex digits, CR and LF.
@@ -27,18 +29,16 @@ pub enum Reply {
 fn put(out: &mut [u8], at: usize, text: &[u8]) -> usize
     requires { ⌜ at + length (now text) ≤ length (now out) ⌝ }
     ensures end { λ r. ⌜ r ≡ at + length (now (text .entry)) ⌝ }
-    ensures after { λ _. ⌜ now (out .exit) ≡ written at (now (text .entry)) (now (out .entry)) ⌝ }
+    ensures after { λ _. ⌜ now (out .exit) ≡ written (now (out .entry)) at (now (text .entry)) ⌝ }
 {
-    let end = at + text.len();
-    out[at..end].copy_from_slice(text);
-    end
+    store(out, at, text).unwrap()
 }
 
 // The same of bytes, in hex.
 fn put_hex(out: &mut [u8], at: usize, bytes: &[u8]) -> usize
     requires { ⌜ at + 2 * length (now bytes) ≤ length (now out) ⌝ }
     ensures end { λ r. ⌜ r ≡ at + 2 * length (now (bytes .entry)) ⌝ }
-    ensures after { λ _. ⌜ now (out .exit) ≡ written at (pairs (now (bytes .entry))) (now (out .entry)) ⌝ }
+    ensures after { λ _. ⌜ now (out .exit) ≡ written (now (out .entry)) at (pairs (now (bytes .entry))) ⌝ }
 {
     let mut end = at;
     for b in bytes {

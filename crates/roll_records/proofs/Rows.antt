@@ -16,22 +16,6 @@ use Rattle.mailbox.specs.Lists.{Laws, waiting, tabled}
 use Rattle.mailbox.proofs.Tables.{tabled-length, tabled-at, tabled-past}
 use Rattle.roll_records.specs.Records.{Record, record-of, head, encode, length-at, decode, messages, before, behind, without, Laid, Good, Sound, Tallied, First}
 
--- one write behind another
-pub written-twice : (area xs ys : List ℕ) (at : ℕ) → at ≤ length area → written (written area at xs) (at + length xs) ys ≡ written area at (xs ++ ys)
-written-twice area xs ys at h =
-    let rest = drop (at + length xs) area in
-    let first = take at area ++ xs in
-    let grouped : written area at xs ≡ first ++ rest = sym (append-assoc (take at area) xs rest) in
-    let long : length first ≡ at + length xs = omega (arith, length-append (take at area) xs, length-take-le at area h) in
-    let front : take (at + length xs) (written area at xs) ≡ first = ap (take (at + length xs)) grouped ∙ take-at first rest _ long in
-    let back : drop (at + length xs) (written area at xs) ≡ rest = ap (drop (at + length xs)) grouped ∙ drop-at first rest _ long in
-    let far : at + length xs + length ys ≡ at + length (xs ++ ys) = omega (arith, length-append xs ys) in
-    let behind-both : drop (at + length xs + length ys) (written area at xs) ≡ drop (at + length (xs ++ ys)) area =
-    sym (drop-drop (length ys) (at + length xs) (written area at xs)) ∙ ap (drop (length ys)) back ∙ drop-drop (length ys) (at + length xs) area ∙ ap (λ (k : ℕ). drop k area) far in
-    ap₂ (λ (x y : List ℕ). x ++ (ys ++ y)) front behind-both
-    ∙ append-assoc (take at area) xs (ys ++ drop (at + length (xs ++ ys)) area)
-    ∙ ap (λ (x : List ℕ). take at area ++ x) (sym (append-assoc xs ys (drop (at + length (xs ++ ys)) area)))
-
 size-of : (m : List ℕ) → length m % 256 + length m / 256 * 256 ≡ length m
 size-of m = omega (arith, div-add-mod' (length m) 256)
 
@@ -46,10 +30,8 @@ decode-encode (r ∷ rs) junk =
     let m = r .message in
     let z = size-of m in
     let grouped : (m ++ encode rs) ++ junk ≡ m ++ (encode rs ++ junk) = append-assoc m (encode rs) junk in
-    let front : take (length m % 256 + length m / 256 * 256) ((m ++ encode rs) ++ junk) ≡ m =
-    ap₂ (λ (n : ℕ) (xs : List ℕ). take n xs) z grouped ∙ take-at m (encode rs ++ junk) (length m) refl in
-    let back : drop (3 + (length m % 256 + length m / 256 * 256)) (c ∷ (length m % 256) ∷ (length m / 256) ∷ ((m ++ encode rs) ++ junk)) ≡ encode rs ++ junk =
-    ap₂ (λ (n : ℕ) (xs : List ℕ). drop (3 + n) (c ∷ (length m % 256) ∷ (length m / 256) ∷ xs)) z grouped ∙ drop-record c _ _ m (encode rs ++ junk) in
+    let front : take (length m % 256 + length m / 256 * 256) ((m ++ encode rs) ++ junk) ≡ m = ap₂ (λ (n : ℕ) (xs : List ℕ). take n xs) z grouped ∙ take-at m (encode rs ++ junk) (length m) refl in
+    let back : drop (3 + (length m % 256 + length m / 256 * 256)) (c ∷ (length m % 256) ∷ (length m / 256) ∷ ((m ++ encode rs) ++ junk)) ≡ encode rs ++ junk = ap₂ (λ (n : ℕ) (xs : List ℕ). drop (3 + n) (c ∷ (length m % 256) ∷ (length m / 256) ∷ xs)) z grouped ∙ drop-record c _ _ m (encode rs ++ junk) in
     ap₂ (λ (w xs : List ℕ). record-of c w ∷ decode (length rs) xs) front back ∙ ap (λ (xs : List Record). r ∷ xs) (decode-encode rs junk)
 
 encode-append : (xs ys : List Record) → encode (xs ++ ys) ≡ encode xs ++ encode ys
@@ -123,8 +105,7 @@ here area rs junk at k h e =
     let m = r .message in
     let rest = encode (drop (k + 1) rs) ++ junk in
     let hd : drop k rs ≡ r ∷ drop (k + 1) rs = drop-more rs k (record-of 0 []) h in
-    let f : drop at area ≡ c ∷ (length m % 256) ∷ (length m / 256) ∷ (m ++ rest) =
-    e ∙ ap (λ (x : List Record). encode x ++ junk) hd ∙ ap (λ (x : List ℕ). head c m ++ x) (append-assoc m (encode (drop (k + 1) rs)) junk) in
+    let f : drop at area ≡ c ∷ (length m % 256) ∷ (length m / 256) ∷ (m ++ rest) = e ∙ ap (λ (x : List Record). encode x ++ junk) hd ∙ ap (λ (x : List ℕ). head c m ++ x) (append-assoc m (encode (drop (k + 1) rs)) junk) in
     let n = ap length f in
     let l = length-append m rest in
     let w = length-drop at area in
@@ -281,8 +262,7 @@ put-row area area′ n used c m l e w =
     let junk = drop (used + length (head c m ++ m)) area in
     let front : take used area ≡ encode rs = ap (take used) l ∙ take-at (encode rs) (drop (length (encode rs)) area) used e in
     let tail : encode more ++ junk ≡ (head c m ++ m) ++ junk = ap (λ (x : List ℕ). head c m ++ (x ++ junk)) (append-nil m) in
-    let whole : area′ ≡ encode (rs ++ more) ++ junk =
-    w ∙ ap₂ (λ (x y : List ℕ). x ++ y) front (sym tail) ∙ sym (append-assoc (encode rs) (encode more) junk) ∙ ap (λ (x : List ℕ). x ++ junk) (sym (encode-append rs more)) in
+    let whole : area′ ≡ encode (rs ++ more) ++ junk = w ∙ ap₂ (λ (x y : List ℕ). x ++ y) front (sym tail) ∙ sym (append-assoc (encode rs) (encode more) junk) ∙ ap (λ (x : List ℕ). x ++ junk) (sym (encode-append rs more)) in
     let b = laid-by (rs ++ more) area′ junk (n + 1) whole (omega (arith, length-push rs (record-of c m), decode-length n area)) in
     record {
       rows = b .0;
@@ -320,8 +300,7 @@ first-of area n used c at l e one is =
     let dropped : drop at area ≡ encode from ++ junk = ap (drop at) whole ∙ drop-at (encode b) (encode from ++ junk) at (sym is) in
     let h = here area from junk at 0 (omega arith) dropped in
     let z : length-at area at ≡ length m = h .long in
-    let msg : take (length-at area at) (drop (at + 3) area) ≡ m =
-    ap₂ (λ (k : ℕ) (xs : List ℕ). take k xs) z (sym (drop-drop 3 at area) ∙ ap (drop 3) dropped ∙ append-assoc m (encode q) junk) ∙ take-at m (encode q ++ junk) (length m) refl in
+    let msg : take (length-at area at) (drop (at + 3) area) ≡ m = ap₂ (λ (k : ℕ) (xs : List ℕ). take k xs) z (sym (drop-drop 3 at area) ∙ ap (drop 3) dropped ∙ append-assoc m (encode q) junk) ∙ take-at m (encode q ++ junk) (length m) refl in
     let lb = ap length bytes ∙ length-append (encode b) (encode from) in
     let lm = length-append m (encode q) in
     let lr = ap length cut ∙ length-append b from in
@@ -381,3 +360,15 @@ fills-set lim xs i v l h b k =
     (λ (e : k ≡ i). omega (arith, ap (λ (j : ℕ). getD (set xs i v) j 0) e, getD-set-same xs i v 0 l))
     (λ ne. omega (arith, getD-set-other xs i k v 0 ne, b k))
     (cases-eq k i)
+
+-- `hi` and `ok` for 3 and `!` for 0 between them, as they lie, and after 3 took its first
+three : List Record
+three = record-of 3 (104 ∷ 105 ∷ []) ∷ record-of 0 (33 ∷ []) ∷ record-of 3 (111 ∷ 107 ∷ []) ∷ []
+
+lie-so : encode three ≡ 3 ∷ 2 ∷ 0 ∷ 104 ∷ 105 ∷ 0 ∷ 1 ∷ 0 ∷ 33 ∷ 3 ∷ 2 ∷ 0 ∷ 111 ∷ 107 ∷ []
+unfolding three
+lie-so = refl
+
+and-then : encode (without 3 three) ≡ 0 ∷ 1 ∷ 0 ∷ 33 ∷ 3 ∷ 2 ∷ 0 ∷ 111 ∷ 107 ∷ []
+unfolding three
+and-then = refl

@@ -7,8 +7,8 @@ use lib.ListN.{length, take, drop, getD}
 use Rattle.std.proofs.shelf.Lists.{take-append-drop, take-more, take-all, length-take-le}
 use Rattle.hex.specs.Hex.{digit, pairs}
 use Rattle.hex.proofs.Pairs.{length-pairs, pairs-append}
-use Rattle.handshake.specs.Texts.{written}
-use Rattle.handshake.proofs.Writing.{written-more}
+use Rattle.area.specs.Writes.{written}
+use Rattle.area.proofs.Joins.{written-twice}
 use Rattle.handshake.proofs.reply.put_hex.Needs as need
 
 pub loop-b-holds : need.loop-b-holds
@@ -29,7 +29,7 @@ loop-b-again c =
     ap pairs (take-more bytes i 0 (c .loop-b-test .taken)) ∙ pairs-append (take i bytes) (b ∷ [])
     in
     let here : c .loop-b .end ≡ c .args .at + length done = omega arith in
-    let joined = written-more (c .args .at) done two (c .args .out .now) (omega arith) in
+    let joined = written-twice (c .args .out .now) done two (c .args .at) (omega arith) in
     let both = c .pair .ensures .digits in
     let wrote = c .put-end .ensures .after in
     let was = c .loop-b .inv .1 in

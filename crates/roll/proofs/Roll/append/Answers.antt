@@ -1,6 +1,6 @@
 use mathlib.Core.List.{List, _++_}
 use mathlib.Core.Path.{_≡_, refl, sym, ap, subst, _∙_}
-use Prim.Native.Nat.{ℕ, _+_, _<_}
+use Prim.Native.Nat.{ℕ, _+_, _*_, _<_, _≤_}
 use native.Mathlib.Omega.{arith}
 use lib.ListN.{length, getD, set}
 use Rattle.std.specs.Changed.{refilled}
@@ -39,32 +39,14 @@ ghost-self c =
     let i = c .from .result in
     let n = getD (s .counts) i 0 + 1 in
     let free : getD (s .counts) i 0 < s .limit = subst (λ (j : ℕ). getD (s .counts) j 0 < s .limit) (sym (c .from .ensures)) (c .pre .free) in
-    let more : Tallied (set (s .counts) k (getD (s .counts) k 0 + 1)) (decode (s .records + 1) (vec-items v)) =
-    subst (Tallied (set (s .counts) k (getD (s .counts) k 0 + 1))) (sym (p .rows)) (tallied-put (s .counts) (row s) k m (omega (arith, s .sixteen, c .pre .known)) (s .tallied)) in (
-      s .most,
-      (
-        omega (arith, s .room, s .area .ok .0, v .ok .0),
-        (
-          p .laid,
-          (
-            p .ends ∙ sym (c .write-record-self .ensures .end),
-            (
-              subst Sound (sym (p .rows)) (sound-push (row s) (record-of k m) (s .sound) (c .pre .known, c .pre .some, c .pre .short)),
-              (
-                length-set (s .counts) i n ∙ s .sixteen,
-                (
-                  subst (λ (j : ℕ). Tallied (set (s .counts) j (getD (s .counts) j 0 + 1)) (decode (s .records + 1) (vec-items v))) (sym (c .from .ensures)) more,
-                  (
-                    fills-set (s .limit) (s .counts) i n (omega (arith, s .sixteen, c .pre .known)) (omega arith) (s .fills),
-                    tt,
-                  ),
-                ),
-              ),
-            ),
-          ),
-        ),
-      ),
-    )
+    let more : Tallied (set (s .counts) k (getD (s .counts) k 0 + 1)) (decode (s .records + 1) (vec-items v)) = subst (Tallied (set (s .counts) k (getD (s .counts) k 0 + 1))) (sym (p .rows)) (tallied-put (s .counts) (row s) k m (omega (arith, s .sixteen, c .pre .known)) (s .tallied)) in
+    let room : s .limit * 16432 ≤ length (vec-items v) = omega (arith, s .room, s .area .ok .0, v .ok .0) in
+    let ends = p .ends ∙ sym (c .write-record-self .ensures .end) in
+    let sound = subst Sound (sym (p .rows)) (sound-push (row s) (record-of k m) (s .sound) (c .pre .known, c .pre .some, c .pre .short)) in
+    let sixteen = length-set (s .counts) i n ∙ s .sixteen in
+    let tallied = subst (λ (j : ℕ). Tallied (set (s .counts) j (getD (s .counts) j 0 + 1)) (decode (s .records + 1) (vec-items v))) (sym (c .from .ensures)) more in
+    let fills = fills-set (s .limit) (s .counts) i n (omega (arith, s .sixteen, c .pre .known)) (omega arith) (s .fills) in
+    (s .most, (room, (p .laid, (ends, (sound, (sixteen, (tallied, (fills, tt))))))))
 
 pub returns : need.returns
 returns c =

@@ -1,5 +1,5 @@
 use mathlib.Core.Path.{_≡_, refl, sym, ap, subst, _∙_}
-use Prim.Native.Nat.{ℕ, _+_, _-_, _<_}
+use Prim.Native.Nat.{ℕ, _+_, _-_, _*_, _<_, _≤_}
 use native.Mathlib.Omega.{arith}
 use lib.ListN.{length, getD, set}
 use Rattle.std.specs.Of.Vec.{vec-items}
@@ -45,32 +45,13 @@ ghost-self c =
     let i = c .from .result in
     let n = getD (s .counts) i 0 - 1 in
     let there = known s k (c .args .at) (c .args .size) (c .pre) in
-    let fewer : Tallied (set (s .counts) k (getD (s .counts) k 0 - 1)) (decode (s .records - 1) (vec-items v)) =
-    subst (Tallied (set (s .counts) k (getD (s .counts) k 0 - 1))) (sym (t .rows)) (tallied-take (s .counts) (row s) k _ (omega (arith, s .sixteen)) (s .tallied) (c .pre .oldest)) in (
-      s .most,
-      (
-        omega (arith, s .room, c .copy-within .ensures .len, s .area .ok .0, v .ok .0),
-        (
-          t .laid,
-          (
-            t .ends,
-            (
-              subst Sound (sym (t .rows)) (sound-without k (row s) (s .sound)),
-              (
-                length-set (s .counts) i n ∙ s .sixteen,
-                (
-                  subst (λ (j : ℕ). Tallied (set (s .counts) j (getD (s .counts) j 0 - 1)) (decode (s .records - 1) (vec-items v))) (sym (c .from .ensures)) fewer,
-                  (
-                    fills-set (s .limit) (s .counts) i n (omega (arith, s .sixteen)) (omega (arith, s .fills i)) (s .fills),
-                    tt,
-                  ),
-                ),
-              ),
-            ),
-          ),
-        ),
-      ),
-    )
+    let less : Tallied (set (s .counts) k (getD (s .counts) k 0 - 1)) (decode (s .records - 1) (vec-items v)) = subst (Tallied (set (s .counts) k (getD (s .counts) k 0 - 1))) (sym (t .rows)) (tallied-take (s .counts) (row s) k _ (omega (arith, s .sixteen)) (s .tallied) (c .pre .oldest)) in
+    let room : s .limit * 16432 ≤ length (vec-items v) = omega (arith, s .room, c .copy-within .ensures .len, s .area .ok .0, v .ok .0) in
+    let sound = subst Sound (sym (t .rows)) (sound-without k (row s) (s .sound)) in
+    let sixteen = length-set (s .counts) i n ∙ s .sixteen in
+    let tallied = subst (λ (j : ℕ). Tallied (set (s .counts) j (getD (s .counts) j 0 - 1)) (decode (s .records - 1) (vec-items v))) (sym (c .from .ensures)) less in
+    let fills = fills-set (s .limit) (s .counts) i n (omega (arith, s .sixteen)) (omega (arith, s .fills i)) (s .fills) in
+    (s .most, (room, (t .laid, (t .ends, (sound, (sixteen, (tallied, (fills, tt))))))))
 
 pub returns : need.returns
 returns c =
@@ -79,8 +60,7 @@ returns c =
     let t = take-row (vec-items (s .area)) (vec-items (c .copy-within .last .self)) (s .records) (s .used) k (c .args .at) (c .args .size) (c .pre) (c .copy-within .ensures .items) in
     let there = known s k (c .args .at) (c .args .size) (c .pre) in
     let some = held s k (c .args .at) (c .args .size) (c .pre) in
-    let fewer : getD (set (s .counts) k (getD (s .counts) k 0 - 1)) k 0 + 1 ≡ getD (s .counts) k 0 =
-    omega (arith, getD-set-same (s .counts) k (getD (s .counts) k 0 - 1) 0 (omega (arith, s .sixteen))) in
+    let fewer : getD (set (s .counts) k (getD (s .counts) k 0 - 1)) k 0 + 1 ≡ getD (s .counts) k 0 = omega (arith, getD-set-same (s .counts) k (getD (s .counts) k 0 - 1) 0 (omega (arith, s .sixteen))) in
     record {
       rows = t .rows;
       limit = refl;

@@ -7,7 +7,7 @@ use lib.ListN.{length}
 use Rattle.std.specs.declared.option.Option.the-variants.{Some}
 use Rattle.std.proofs.shelf.Tests.{cond-true, le-leb}
 use Rattle.area.specs.Writes.{fits, written}
-use Rattle.roll_records.proofs.Rows.{written-twice}
+use Rattle.area.proofs.Joins.{written-twice}
 use Rattle.roll.proofs.layout.write_record.Needs as need
 
 pub returns : need.returns

@@ -7,8 +7,9 @@ use lib.Chars.{codes}
 use lib.ListN.{length, length-append}
 use Rattle.hex.specs.Hex.{pairs}
 use Rattle.hex.proofs.Pairs.{length-pairs}
-use Rattle.handshake.specs.Texts.{wording, onto, written, line-end}
-use Rattle.handshake.proofs.Writing.{written-more}
+use Rattle.area.specs.Writes.{written}
+use Rattle.area.proofs.Joins.{written-twice}
+use Rattle.handshake.specs.Texts.{wording, onto, line-end}
 use Rattle.handshake.proofs.reply.Reply.write.Needs as need
 
 pub returns-in-Okay : need.returns-in-Okay
@@ -21,8 +22,8 @@ returns-in-Okay c =
     let many = length-pairs id in
     let size : length front ≡ 35 = simp length-append (omega (arith, many, c .told-id)) in
     let whole : length text ≡ 37 = simp length-append (omega (arith, many, c .told-id)) in
-    let one = written-more 0 (codes "OK ") (pairs id) out (omega (arith, many, c .told-id)) in
-    let two = written-more 0 front line-end out (omega arith) in
+    let one = written-twice out (codes "OK ") (pairs id) 0 (omega arith) in
+    let two = written-twice out front line-end 0 (omega arith) in
     let first : c .put-at .result ≡ 0 + length (codes "OK ") = omega arith in
     let second : c .put-hex-at .result ≡ 0 + length front = omega (arith, many, c .told-id) in
     let none = zero-add (length text) in

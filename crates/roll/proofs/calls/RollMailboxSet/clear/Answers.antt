@@ -19,8 +19,7 @@ loop-self-again c =
     let rows = c .drop-oldest .ensures .rows in
     let left = messages k (without k (row s)) in
     let h : k < 16 = counted-below (s .counts) k (s .sixteen) (ltb-true 0 _ (sym (c .has-any .ensures) ∙ c .loop-self-test .taken)) in
-    let one-less : lists-of (c .drop-oldest .last .self) ≡ set (lists-of s) k left =
-    tabled-set (waits s) (waits (c .drop-oldest .last .self)) k left h (ap (messages k) rows) (λ j hj ne. ap (messages j) rows ∙ messages-without k j (row s) ne)
+    let one-less : lists-of (c .drop-oldest .last .self) ≡ set (lists-of s) k left = tabled-set (waits s) (waits (c .drop-oldest .last .self)) k left h (ap (messages k) rows) (λ j hj ne. ap (messages j) rows ∙ messages-without k j (row s) ne)
     in (
       c .drop-oldest .ensures .limit ∙ c .loop-self .inv .0,
       ap (λ (ls : Lists). clear-after ls k) one-less ∙ set-set (lists-of s) k left [] ∙ c .loop-self .inv .1,
