@@ -21,36 +21,10 @@ from __future__ import annotations
 import sys
 from collections import Counter
 from dataclasses import dataclass, field
-from typing import TypeVar
 
 import stream
 from handshake import Bus, Life, Line, Refused, State, has_begun_by_law, passing_text, read_line
-
-T = TypeVar("T")
-
-
-class Dice:
-    """A small generator of numbers, so that each recording is the same."""
-
-    def __init__(self, start: int) -> None:
-        self.state = start
-
-    def below(self, bound: int) -> int:
-        self.state = (self.state * 6364136223846793005 + 1442695040888963407) % 2**64
-        return (self.state >> 33) % bound
-
-    def pick(self, things: list[T]) -> T:
-        return things[self.below(len(things))]
-
-    def weigh(self, things: dict[T, int]) -> T:
-        """Pick a thing as often as its weight says."""
-        left = self.below(sum(things.values()))
-        for thing, weight in things.items():
-            if left < weight:
-                return thing
-            left -= weight
-        raise AssertionError("the weights end before their sum")
-
+from recording import Dice, check_files
 
 # Recording -------------------------------------------------------------------
 
@@ -625,23 +599,10 @@ def print_cells(recorder: Recorder) -> None:
         print(f"{name:<6} refused by {number}: {count:>4}")
 
 
-def check(recorder: Recorder, stream_file: str, summary_file: str) -> int:
-    status = 0
-    for name, expected in ((stream_file, recorder.stream()), (summary_file, recorder.summary())):
-        try:
-            with open(name, "rb") as file:
-                same = file.read() == expected.encode("ascii")
-        except FileNotFoundError:
-            same = False
-        print(f"{name}: {'as recorded' if same else 'differs from what the model records'}")
-        status = status if same else 1
-    return status
-
-
 def main(arguments: list[str]) -> int:
     recorder = record()
     if arguments[:1] == ["--check"] and len(arguments) == 3:
-        return check(recorder, arguments[1], arguments[2])
+        return check_files({arguments[1]: recorder.stream(), arguments[2]: recorder.summary()})
     if arguments == ["--cells"]:
         print_cells(recorder)
         return 0

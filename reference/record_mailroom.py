@@ -23,44 +23,9 @@ import sys
 from collections import Counter
 from collections.abc import Callable
 from dataclasses import dataclass
-from typing import TypeVar
 
 from mailboxes import Lists, MailboxSet, Refusal, Refused, Roll, Shelf
-
-T = TypeVar("T")
-
-
-class Dice:
-    """A small generator of numbers, so that each recording is the same."""
-
-    def __init__(self, start: int) -> None:
-        self.state = start
-
-    def below(self, bound: int) -> int:
-        self.state = (self.state * 6364136223846793005 + 1442695040888963407) % 2**64
-        return (self.state >> 33) % bound
-
-    def pick(self, things: list[T]) -> T:
-        return things[self.below(len(things))]
-
-    def weigh(self, things: dict[T, int]) -> T:
-        """Pick a thing as often as its weight says."""
-        left = self.below(sum(things.values()))
-        for thing, weight in things.items():
-            if left < weight:
-                return thing
-            left -= weight
-        raise AssertionError("the weights end before their sum")
-
-    def mix(self, things: list[T]) -> list[T]:
-        """The same things in another order."""
-        left, mixed = list(things), []
-        while left:
-            mixed.append(left.pop(self.below(len(left))))
-        return mixed
-
-    def text(self, length: int) -> bytes:
-        return bytes(self.below(256) for _ in range(length))
+from recording import Dice, check_files
 
 
 def pattern(length: int) -> bytes:
@@ -932,19 +897,6 @@ def print_cases(r: Recorder) -> None:
     print(f"{len(r.lines)} steps, {len(CASES)} cases, each met {min(r.cases.values())} times or more", file=sys.stderr)
 
 
-def check(r: Recorder, script_file: str, output_file: str) -> int:
-    status = 0
-    for name, expected in ((script_file, r.script()), (output_file, r.output())):
-        try:
-            with open(name, "rb") as file:
-                same = file.read() == expected.encode("ascii")
-        except FileNotFoundError:
-            same = False
-        print(f"{name}: {'as recorded' if same else 'differs from what the models record'}")
-        status = status if same else 1
-    return status
-
-
 def main(arguments: list[str]) -> int:
     checking = arguments[:1] == ["--check"]
     files = arguments[1:] if checking else arguments
@@ -954,7 +906,7 @@ def main(arguments: list[str]) -> int:
     r = record()
     print_cases(r)
     if checking:
-        return check(r, files[0], files[1])
+        return check_files({files[0]: r.script(), files[1]: r.output()})
     for name, text in zip(files, (r.script(), r.output())):
         with open(name, "wb") as file:
             file.write(text.encode("ascii"))
