@@ -1,4 +1,6 @@
 // Bytes of an area of memory: writing them, and those up to a place.
+#![tactic(auto)]
+
 ghost use Rattle.std.specs.Prelude.{◌≡◌, ◌+◌, length, take, if◌then◌else◌, Some, None};
 ghost use Rattle.area.specs.Writes.{fits, written};
 

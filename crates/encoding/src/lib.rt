@@ -1,4 +1,6 @@
 // The law of encodings: bytes are read as values of types exactly if they are the encoding of some.
+#![tactic(auto)]
+
 ghost use Rattle.std.specs.Prelude.{ℕ, ◌^◌, ◌<◌, length, MatchOption};
 ghost use Rattle.encoding.specs.Encodings.{EncodedAt, Law};
 ghost use Rattle.encoding.specs.Examples.{Examples};

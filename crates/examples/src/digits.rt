@@ -1,5 +1,5 @@
 // Bytes in hex.
-use hex::pair;
+use hex_digits::pair;
 
 #[test]
 fn two_digits(rt: HostRuntime) {

@@ -1,4 +1,6 @@
 // The examples of docs/, as tests of the crates.
+#![tactic(auto)]
+
 #[cfg(test)]
 mod digits;
 #[cfg(test)]

@@ -1,4 +1,6 @@
 // The fields of a message's header.
+#![tactic(auto)]
+
 pub mod known;
 mod read;
 

@@ -1,4 +1,6 @@
 // The frame of a message: its first 16 bytes, and its length.
+#![tactic(auto)]
+
 pub mod kinds;
 mod read;
 

@@ -6,8 +6,8 @@ use Rattle.std.proofs.lemmas.Slice.Eq.{bytes_eq-Decides}
 use Rattle.std.proofs.lemmas.List.{append_assoc, same_from_push}
 use Rattle.std.proofs.lemmas.Bool.{cases_lt, false≢true}
 use Rattle.std.proofs.lemmas.Bool.Decides.{same_from_decides, Decides-like}
-use Rattle.hex.specs.Hex.{digit, pairs}
-use Rattle.hex.proofs.Pairs.{digit_below, pairs_append}
+use Rattle.hex_digits.specs.Hex.{digit, pairs}
+use Rattle.hex_digits.proofs.Pairs.{digit_below, pairs_append}
 use Rattle.handshake.specs.Texts.{credential}
 
 -- a decimal digit in hex

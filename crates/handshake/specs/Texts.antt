@@ -1,6 +1,6 @@
 -- The texts of the handshake: what shows a uid, and what each answer says.
 use Rattle.std.specs.Prelude.{ℕ, List, [], ◌∷◌, ◌++◌, length, drop, codes, decimal}
-use Rattle.hex.specs.Hex.{pairs}
+use Rattle.hex_digits.specs.Hex.{pairs}
 use Rattle.handshake.specs.declared.reply.Reply.{Reply}
 use Rattle.handshake.specs.declared.reply.Reply.TheVariants as reply
 

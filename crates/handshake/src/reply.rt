@@ -1,11 +1,11 @@
 // What the server says, and how it is written.
 ghost use Rattle.std.specs.Prelude.{◌≡◌, ◌+◌, ◌*◌, ◌<◌, ◌≤◌, ◌++◌, length};
-ghost use Rattle.hex.specs.Hex.{pairs};
+ghost use Rattle.hex_digits.specs.Hex.{pairs};
 ghost use Rattle.area.specs.Writes.{written};
 ghost use Rattle.handshake.specs.Texts.{wording, onto};
 
 use area::store;
-use hex::pair;
+use hex_digits::pair;
 
 // The bytes that the longest answer takes: OK, a space, 32 hex digits, CR and LF.
 pub const ROOM: usize = 37;

@@ -1,4 +1,6 @@
 // Says of messages in hex what they hold, or what is wrong with them.
+#![tactic(auto)]
+
 mod content;
 mod failure;
 mod reader;

@@ -1,4 +1,6 @@
 // The items of a message: padding, values that hold no others, the heads of arrays, the types of variants.
+#![tactic(auto)]
+
 pub mod fault;
 mod read;
 

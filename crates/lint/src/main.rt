@@ -1,4 +1,6 @@
 // Says of texts whether they are signatures, paths, names or texts, as asked.
+#![tactic(auto)]
+
 mod question;
 mod verdict;
 

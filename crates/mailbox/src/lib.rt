@@ -1,4 +1,6 @@
 // Sixteen mailboxes behind one trait.
+#![tactic(auto)]
+
 ghost use Rattle.std.specs.Prelude.{◌≡◌, ℕ, length};
 ghost use Rattle.mailbox.specs.Lists.{Lists, Laws, waiting, put_answer, put_after, take_answer, take_after, take_buffer, clear_after};
 

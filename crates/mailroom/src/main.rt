@@ -1,8 +1,10 @@
 // Carries out a script on a shelf and on a roll, and says whether they answer alike.
+#![tactic(auto)]
+
 mod script;
 
 use anyhow::anyhow;
-use hex::pair;
+use hex_digits::pair;
 use mailbox::{MailboxSet, Refusal};
 use roll::Roll;
 use script::{Line, Wrong, read};

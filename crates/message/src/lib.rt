@@ -1,4 +1,6 @@
 // A message, read from bytes.
+#![tactic(auto)]
+
 mod reading;
 
 use fields::Fields;

@@ -1,4 +1,6 @@
 // The byte order of a message: how the bytes of a number lie in it.
+#![tactic(auto)]
+
 ghost use Rattle.std.specs.Prelude.{◌≡◌, ℕ, List, reverse, length};
 ghost use Rattle.std.proofs.lemmas.List.{reverse-reverse, length-reverse};
 ghost use Rattle.std.specs.List.{AllByRecursion as All};

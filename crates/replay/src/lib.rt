@@ -1,3 +1,5 @@
 // Makes the calls of a recorded stream, and counts them.
+#![tactic(auto)]
+
 pub mod perform;
 pub mod tally;

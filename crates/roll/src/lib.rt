@@ -1,4 +1,6 @@
 // A mailbox set that keeps all its messages in one row of records.
+#![tactic(auto)]
+
 ghost use Rattle.std.specs.Prelude.{◌≡◌, ℕ, ◌*◌, ◌≤◌, length, slice_index};
 ghost use Rattle.roll_records.specs.Records.{encode, decode, Laid, Sound, Tallied};
 

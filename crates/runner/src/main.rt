@@ -1,4 +1,6 @@
 // Replays a recorded stream from standard input, and says what was accomplished.
+#![tactic(auto)]
+
 mod session;
 
 use anyhow::anyhow;

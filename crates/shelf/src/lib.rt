@@ -1,4 +1,6 @@
 // A mailbox set over an area of bytes, with a slot for each message that may wait.
+#![tactic(auto)]
+
 mod places;
 mod ring;
 

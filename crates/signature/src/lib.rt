@@ -1,4 +1,6 @@
 // Signatures: the types of values, spelled by codes.
+#![tactic(auto)]
+
 pub mod codes;
 mod grammar;
 

@@ -1,4 +1,6 @@
 // Steps that are carried out on any mailbox set.
+#![tactic(auto)]
+
 ghost use Rattle.std.specs.Prelude.{◌≡◌, length};
 ghost use Rattle.steps.specs.Steps.{Alike, meant, outcome, lists_after, buffer_after};
 

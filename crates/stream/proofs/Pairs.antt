@@ -3,8 +3,8 @@ use Rattle.std.proofs.Common.{◌≡◌, ℕ, zero, suc, ◌+◌, ◌*◌, ◌/�
 use Rattle.std.proofs.lemmas.List.{take_more, get_or_append_left, get_or_push, length_push}
 use Rattle.std.proofs.lemmas.Bool.{cases_lt}
 use Rattle.std.proofs.lemmas.Bool.Decides.{nat_tests}
-use Rattle.hex.specs.Hex.{digit, pairs}
-use Rattle.hex.proofs.Pairs.{length_pairs}
+use Rattle.hex_digits.specs.Hex.{digit, pairs}
+use Rattle.hex_digits.proofs.Pairs.{length_pairs}
 use Rattle.stream.specs.Spelling.{hex, Bytes, Without}
 
 pairs_push : (bs more : List ℕ) (b : ℕ) → pairs (bs ++ (b ∷ [])) ++ more ≡ pairs bs ++ (digit (b / 16) ∷ (digit (b % 16) ∷ more))

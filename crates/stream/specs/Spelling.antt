@@ -1,6 +1,6 @@
 -- How numbers, bytes and words are written in a row.
 use Rattle.std.specs.Prelude.{◌≡◌, ℕ, ◌<◌, List, [], ◌∷◌, ◌++◌, length, ◌≢◌, slice_index}
-use Rattle.hex.specs.Hex.{pairs}
+use Rattle.hex_digits.specs.Hex.{pairs}
 
 -- bytes as a word: '-' for none
 abbrev pub hex : List ℕ → List ℕ

@@ -2,7 +2,7 @@
 ghost use Rattle.std.specs.Prelude.{Some};
 ghost use Rattle.stream.specs.Spelling.{hex};
 
-use hex::pair;
+use hex_digits::pair;
 use std::fmt;
 
 // Bytes that are shown as a word of a row.

@@ -1,4 +1,6 @@
 // Rows of a recorded stream: calls, and the answers that were recorded.
+#![tactic(auto)]
+
 mod answer;
 mod call;
 mod fault;

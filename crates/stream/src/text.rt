@@ -1,6 +1,6 @@
 // The text of a row: its words, numbers and bytes.
 ghost use Rattle.std.specs.Prelude.{◌≡◌, ℕ, ◌^◌, ◌<◌, ◌≤◌, List, length, decimal, MatchOption, MatchResult, ◌≢◌, slice_index};
-ghost use Rattle.hex.specs.Hex.{digit};
+ghost use Rattle.hex_digits.specs.Hex.{digit};
 ghost use Rattle.stream.specs.Spelling.{hex, Bytes};
 ghost use Rattle.stream.specs.Text.{Content};
 ghost use Rattle.stream.specs.declared.fault.Fault.TheVariants.{OutOfMemory};

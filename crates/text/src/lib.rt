@@ -1,4 +1,6 @@
 // Text, object paths and names: which bytes are one.
+#![tactic(auto)]
+
 ghost use Rattle.std.specs.Prelude.{◌≡◌, true, Decides};
 ghost use Rattle.text.specs.Texts.{Text};
 ghost use Rattle.text.specs.Grammar.{Path, Member, Interface, Told};

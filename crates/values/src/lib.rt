@@ -1,4 +1,6 @@
 // The values of a message, and whether they lie as their types ask.
+#![tactic(auto)]
+
 ghost use Rattle.std.specs.Prelude.{◌≡◌, ◌≤◌, length, Decides};
 ghost use Rattle.values.specs.Values.{Read, Decided, Spelled, OfTypes};
 

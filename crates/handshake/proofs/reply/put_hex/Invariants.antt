@@ -1,5 +1,5 @@
 use Rattle.std.proofs.Common.{◌≡◌, ◌+◌, ◌*◌, take}
-use Rattle.hex.specs.Hex.{pairs}
+use Rattle.hex_digits.specs.Hex.{pairs}
 use Rattle.area.specs.Writes.{written}
 use Rattle.handshake.proofs.reply.put_hex.Given as goal
 

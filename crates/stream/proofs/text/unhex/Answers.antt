@@ -4,7 +4,7 @@ use Rattle.std.proofs.lemmas.List.{length-append, take_rest, nil_from_length}
 use Rattle.std.proofs.lemmas.Bool.{both_ways, eqb-true, eqb-false}
 use Rattle.std.proofs.lemmas.Result.{err_from_is_err_and}
 use Rattle.std.proofs.lemmas.Slice.{pushed}
-use Rattle.hex.specs.Hex.{pairs}
+use Rattle.hex_digits.specs.Hex.{pairs}
 use Rattle.stream.specs.Spelling.{hex, Bytes}
 use Rattle.stream.proofs.Exits.{bad_hex}
 use Rattle.stream.proofs.Pairs.{pairs_step, bytes_push, hex_pairs, no_hex, no_high, no_low, no_odd}

@@ -1,5 +1,5 @@
 use Rattle.std.proofs.Common.{◌≡◌, ◌++◌, length, vec_items}
-use Rattle.hex.specs.Hex.{pairs}
+use Rattle.hex_digits.specs.Hex.{pairs}
 use Rattle.stream.specs.Spelling.{Bytes}
 use Rattle.stream.proofs.text.unhex.Given as goal
 

@@ -1,6 +1,6 @@
 use Rattle.std.proofs.Common.{◌≡◌, ℕ, ◌+◌, ◌-◌, ◌*◌, ◌≤◌, List, [], ◌∷◌, ◌++◌, length, codes, sym, refl, ap, ◌∙◌, zero-add, arith, length-append}
-use Rattle.hex.specs.Hex.{pairs}
-use Rattle.hex.proofs.Pairs.{length_pairs}
+use Rattle.hex_digits.specs.Hex.{pairs}
+use Rattle.hex_digits.proofs.Pairs.{length_pairs}
 use Rattle.area.specs.Writes.{written}
 use Rattle.area.proofs.Joins.{written_twice}
 use Rattle.handshake.specs.Texts.{wording, onto, line_end}

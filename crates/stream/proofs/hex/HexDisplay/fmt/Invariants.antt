@@ -1,6 +1,6 @@
 use Rattle.std.proofs.Common.{take}
 use Rattle.std.specs.Fmt.{IsPlainFormatter, HasWritten}
-use Rattle.hex.specs.Hex.{pairs}
+use Rattle.hex_digits.specs.Hex.{pairs}
 use Rattle.stream.proofs.hex.HexDisplay.fmt.Given as goal
 
 abbrev pub invariant-loop-b : goal.invariant-loop-b

@@ -1,6 +1,8 @@
 // Bytes in hex.
+#![tactic(auto)]
+
 ghost use Rattle.std.specs.Prelude.{◌≡◌, [], ◌∷◌, ◌<◌, get_or};
-ghost use Rattle.hex.specs.Hex.{digit, pairs};
+ghost use Rattle.hex_digits.specs.Hex.{digit, pairs};
 
 // The lower-case digit of a number below 16.
 fn digit_of(n: u8) -> u8

@@ -5,7 +5,7 @@ use Prim.Native.Nat.{ℕ, ◌+◌, ◌*◌, ◌/◌, ◌%◌, ◌<◌}
 use native.Mathlib.Omega.{arith}
 use borrow.Author.Rules.{rules}
 use lib.ListN.{length}
-use Rattle.hex.specs.Hex.{digit, pairs}
+use Rattle.hex_digits.specs.Hex.{digit, pairs}
 
 pub length_pairs : (bs : List ℕ) → length (pairs bs) ≡ 2 * length bs
 length_pairs [] = refl
