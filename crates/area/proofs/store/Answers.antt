@@ -14,13 +14,13 @@ stored area bytes ys at size e f =
 
 pub returns : goal.returns
 returns c =
-    let end = c.in-ok-end.ensures.1 in
+    let end = c.in_ok-end.ensures.1 in
     let room : fits c.args.area.now c.args.at c.args.bytes.now ≡ true =
     le-leb (c.args.at + length c.args.bytes.now) (length c.args.area.now) (omega (arith, end))
     in
     record {
       end = ap Some end ∙ sym (cond-true _ _ _ room);
       after =
-          stored c.args.area.now c.args.bytes.now c.copy-from-slice.new.self c.args.at _ c.copy-from-slice.ensures.after (omega (arith, end))
+          stored c.args.area.now c.args.bytes.now c.copy_from_slice.new.self c.args.at _ c.copy_from_slice.ensures.after (omega (arith, end))
           ∙ sym (cond-true _ _ _ room);
     }

@@ -12,8 +12,8 @@ returns c =
     let fit : (k : ℕ) → get_or xs k 0 < 256 = search rules in
     record {
       value =
-          c.bytes-of-u64.ensures
-          ∙ ap (λ n. reverse (bytes_of 8 n)) c.u64-of.ensures
+          c.bytes_of_u64.ensures
+          ∙ ap (λ n. reverse (bytes_of 8 n)) c.u64_of.ensures
           ∙ ap (λ n. reverse (bytes_of n (number xs))) (sym long)
           ∙ ap reverse (read_written xs (all_from Byte xs fit));
       law = record {

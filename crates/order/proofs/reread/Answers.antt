@@ -9,7 +9,7 @@ returns g c =
     let met = g.met.O.ByteOrder in
     let reads : (n x : ℕ) → x < 256 ^ n → number (o (o (bytes_of n x))) ≡ x = λ n x h. ap number (met.twice (bytes_of n x)) ∙ written_read n x h in
     record {
-      value = c.u64-of.ensures ∙ ap (λ xs. number (o xs)) c.bytes-of-u64.ensures ∙ reads 8 c.args.x (omega arith);
+      value = c.u64_of.ensures ∙ ap (λ xs. number (o xs)) c.bytes_of_u64.ensures ∙ reads 8 c.args.x (omega arith);
       law = record {
         reads_back = reads;
         writes_back = λ xs all.

@@ -11,8 +11,8 @@ returns g c =
     let xs = c.args.bytes in
     let long : length xs ≡ 8 = search rules in
     let fit : (k : ℕ) → get_or xs k 0 < 256 = search rules in
-    c.bytes-of-u64.ensures
-    ∙ ap (λ n. o (bytes_of 8 n)) c.u64-of.ensures
+    c.bytes_of_u64.ensures
+    ∙ ap (λ n. o (bytes_of 8 n)) c.u64_of.ensures
     ∙ ap (λ n. o (bytes_of n (number (o xs)))) (sym (met.size xs ∙ long))
     ∙ ap o (read_written (o xs) (met.bytes xs (all_from Byte xs fit)))
     ∙ met.twice xs
