@@ -23,9 +23,11 @@ def functions(text: str):
             continue
         indent = head.group(1)
         body = []
+        opened = False
         for later in lines[number:]:
             body.append(later)
-            if later in (indent + "}", ) or later.endswith(";") and later.startswith(indent) and len(body) == 1:
+            opened = opened or later.endswith("{")
+            if later == indent + "}" or later.endswith(";") and not opened:
                 break
         yield head.group(3), head.group(2) == "pub ", number + 1, body
 
