@@ -1,6 +1,6 @@
 -- A program has begun exactly if it has shown who it is.
 use Rattle.std.proofs.Common.{◌≡◌, ℕ, ◌≤◌, Bool, true, false, cond, ltb, ◌⊎◌, List, [], ◌∷◌, ◌++◌, length, get_or, Ok, Err, codes, Decides, Result, sym, refl, ap, ◌∙◌, subst, inl, inr, arith}
-use Rattle.std.specs.List.{AllByRecursion as All}
+use Rattle.std.specs.List.{AllByRecursion}
 use Rattle.std.specs.Str.{bytes_eq}
 use Rattle.std.proofs.lemmas.Slice.Eq.{bytes_eq-Decides}
 use Rattle.std.proofs.lemmas.List.{take_at}
@@ -38,7 +38,7 @@ module _ (id : List ℕ) (uid : ℕ) where
     order : xs ≡ between ++ (begin ∷ after)
     begins : begin.line ≡ codes "BEGIN"
     roomy : 37 ≤ begin.room
-    kept : All (λ x. Rejected id x → ⊥) between
+    kept : AllByRecursion (λ x. Rejected id x → ⊥) between
 
   -- what a conversation that ends begun shows, by the state in which it starts
   abbrev Shown : State → List Exchange → Type 0
@@ -187,7 +187,7 @@ module _ (id : List ℕ) (uid : ℕ) where
       by_room_stayed true m = p
       by_room_stayed false m = staying s (read x.line) m p
 
-  through : (xs : List Exchange) (s t : State) → Leads id uid s xs t → All (λ x. Rejected id x → ⊥) xs → Past s → Past t
+  through : (xs : List Exchange) (s t : State) → Leads id uid s xs t → AllByRecursion (λ x. Rejected id x → ⊥) xs → Past s → Past t
   through [] s t l n p = subst Past l p
   through (x ∷ xs) s t (a, l) (n, ns) p = through xs (heard s uid id x.line x.room).next t l ns (stayed x s a n p)
 

@@ -1,6 +1,6 @@
 -- What a whole conversation shows: a program has begun exactly if it has shown who it is.
 use Rattle.std.specs.Prelude.{◌≡◌, ℕ, ◌≤◌, ◌⊎◌, List, [], ◌∷◌, ◌++◌, map, length, take, Ok, Err, codes, Result}
-use Rattle.std.specs.List.{AllByRecursion as All}
+use Rattle.std.specs.List.{AllByRecursion}
 use Rattle.handshake.specs.declared.machine.State.{State}
 use Rattle.handshake.specs.declared.machine.State.TheVariants.{WaitingForAuth, Begun}
 use Rattle.handshake.specs.declared.machine.Refusal.{Refusal}
@@ -50,7 +50,7 @@ pub record Authenticated (id : List ℕ) (uid : ℕ) (xs : List Exchange) : Type
   pub passes : auth.answer ≡ Ok (wording id reply.Okay)
   pub begins : begin.line ≡ codes "BEGIN"
   pub roomy : 37 ≤ begin.room
-  pub kept : All (λ x. Rejected id x → ⊥) between
+  pub kept : AllByRecursion (λ x. Rejected id x → ⊥) between
 
 -- it has begun exactly if it has shown who it is
 abbrev pub Law : List ℕ → ℕ → List Exchange → State → Type 0
