@@ -17,7 +17,7 @@ fn reads_calls(rt: HostRuntime) -> Result<(), Fail> {
             bytes,
             size,
         } => {
-            assert!(rt; connection == 3 && size == 512 && bytes == [10, 255]);
+            assert!(rt; connection == 3 && size == 512 && bytes.as_slice() == [10, 255].as_slice());
         }
         _ => return Err(Fail::new("no line")),
     }
