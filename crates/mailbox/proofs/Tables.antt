@@ -1,11 +1,11 @@
 -- For an implementation whose lists come from a function: what it owes, at c and elsewhere.
-use Rattle.std.proofs.Common.{◌≡◌, ℕ, ◌<◌, ◌≤◌, Bool, true, false, cond, ◌||◌, eqb, ltb, leb, List, [], ◌∷◌, ◌++◌, length, get_or, drop, set, Ok, Err, Result, sym, refl, ap, ◌∙◌, ⊎_elim, arith}
+use Rattle.std.proofs.Common.{◌≡◌, ℕ, ◌<◌, ◌≤◌, true, false, cond, leb, List, [], ◌∷◌, ◌++◌, length, drop, set, Ok, Err, Result, sym, ap, ◌∙◌, ⊎_elim, arith}
 use Rattle.std.proofs.lemmas.List.FromFn.{length-map-range_with_len, get_or-map-range_with_len, fill_by_all}
 use Rattle.std.proofs.lemmas.List.{get_or_past, get_or-set_same, get_or-set_other, length-set, set_past, set-get_or}
-use Rattle.std.proofs.lemmas.Bool.{cases_eq, le-leb, lt-leb, lt-ltb, le-ltb, ne_eqb, cond-true, cond-false, or_from}
+use Rattle.std.proofs.lemmas.Bool.{cases_eq, le-leb, lt-leb, lt-ltb, le-ltb, cond-true, cond-false}
 use Rattle.mailbox.specs.declared.Refusal.{Refusal}
 use Rattle.mailbox.specs.declared.Refusal.TheVariants.{NoMailbox, BadLength, Full, ShortBuffer}
-use Rattle.mailbox.specs.Lists.{Lists, Laws, waiting, tabled, misfit, put_answer, added, put_after, take_answer, taken, take_after, take_buffer, clear_after}
+use Rattle.mailbox.specs.Lists.{Lists, waiting, tabled, misfit, put_answer, added, put_after, take_answer, taken, take_after, take_buffer, clear_after}
 
 -- a refused put, by what refuses it
 module _ (bound : ℕ) (ls : Lists) (c : ℕ) (m : List ℕ) where

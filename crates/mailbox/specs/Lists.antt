@@ -1,5 +1,5 @@
 -- What a mailbox set means: sixteen lists of messages, the oldest first, and what each call makes of them.
-use Rattle.std.specs.Prelude.{◌≡◌, ℕ, ◌<◌, ◌≤◌, Bool, cond, ◌||◌, List, [], ◌∷◌, ◌++◌, map, length, drop, set, Ok, Err, Result, ◌==◌, nat_le, nat_lt, slice_index_or, slice_set}
+use Rattle.std.specs.Prelude.{◌≡◌, ℕ, ◌<◌, ◌≤◌, Bool, cond, ◌||◌, List, [], ◌∷◌, ◌++◌, map, length, drop, Ok, Err, Result, ◌==◌, nat_le, nat_lt, slice_index_or, slice_set}
 use Rattle.std.specs.List.{range_with_len}
 use Rattle.mailbox.specs.declared.Refusal.{Refusal}
 use Rattle.mailbox.specs.declared.Refusal.TheVariants.{NoMailbox, BadLength, Full, ShortBuffer}

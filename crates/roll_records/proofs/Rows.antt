@@ -1,7 +1,7 @@
 -- Laws of rows of records.
 use Rattle.std.proofs.Common.{◌≡◌, ℕ, zero, suc, ◌+◌, ◌-◌, ◌*◌, ◌/◌, ◌%◌, ◌<◌, ◌≤◌, true, false, cond, eqb, List, [], ◌∷◌, ◌++◌, length, get_or, take, drop, set, sym, refl, ap, ◌∙◌, ap₂, ⊎_elim, append_assoc, div-add-mod', arith}
 use lib.Seq.{paste}
-use Rattle.std.proofs.lemmas.List.{append-nil, drop_at, drop-drop, drop_more, get_or-drop, get_or_past, get_or-set_same, get_or-set_other, length-append, length-drop, length_push, length-take-le, take_at}
+use Rattle.std.proofs.lemmas.List.{append-nil, drop_at, drop-drop, drop_more, get_or-drop, get_or_past, get_or-set_same, get_or-set_other, length-append, length-drop, length_push, take_at}
 use Rattle.std.proofs.lemmas.Bool.{cases_Bool, cases_eq, cases_lt, cond-true, cond-false, eqb-true, eq-eqb, ne_eqb}
 use Rattle.area.specs.Writes.{written}
 use Rattle.mailbox.specs.Lists.{Laws, waiting, tabled}

@@ -14,15 +14,15 @@ module _ (s : Roll) (c at size : ℕ) (f : First (vec_items s.area) s.records s.
   known : c < 16
   known = counted_below s.counts c s.sixteen held
 
-pub copy-within-requires : goal.copy-within-requires
-copy-within-requires c =
+pub copy_within-requires : goal.copy_within-requires
+copy_within-requires c =
     let s = c.args.self.now in
     let l = laid_length s.records (vec_items s.area) s.laid in
     record {
-      start-le-end = c.requires.inside;
+      start_le_end = c.requires.inside;
       in_bounds = omega (arith, s.ends, s.area.ok.0);
-      dest-in-bounds = omega (arith, c.requires.inside, s.ends, s.area.ok.0);
-      not-exhausted = tt;
+      dest_in_bounds = omega (arith, c.requires.inside, s.ends, s.area.ok.0);
+      not_exhausted = tt;
     }
 
 pub bounds-self-from : goal.bounds-self-from
@@ -31,29 +31,29 @@ bounds-self-from c = omega (arith, known c.args.self.now c.args.c c.args.at c.ar
 pub bounds-self-from-2 : goal.bounds-self-from-2
 bounds-self-from-2 c = omega (arith, known c.args.self.now c.args.c c.args.at c.args.size c.requires)
 
-pub invariant-of-self : goal.invariant-of-self
-invariant-of-self c =
+pub invariant_of-self : goal.invariant_of-self
+invariant_of-self c =
     let s = c.args.self.now in
     let k = c.args.c in
     let a = vec_items s.area in
-    let v = c.copy-within.new.self in
-    let t = take_row a (vec_items v) s.records s.used k c.args.at c.args.size c.requires c.copy-within.ensures.items in
+    let v = c.copy_within.new.self in
+    let t = take_row a (vec_items v) s.records s.used k c.args.at c.args.size c.requires c.copy_within.ensures.items in
     let i = c.from.result in
     let n = get_or s.counts i 0 - 1 in
     let there = known s k c.args.at c.args.size c.requires in
     let less : Tallied (set s.counts k (get_or s.counts k 0 - 1)) (decode (s.records - 1) (vec_items v)) = subst (Tallied (set s.counts k (get_or s.counts k 0 - 1))) (sym t.rows) (tallied_take s.counts (row s) k _ (omega (arith, s.sixteen)) s.tallied c.requires.oldest) in
-    let room : s.limit * 16432 ≤ length (vec_items v) = omega (arith, s.room, c.copy-within.ensures.len, s.area.ok.0, v.ok.0) in
+    let room : s.limit * 16432 ≤ length (vec_items v) = omega (arith, s.room, c.copy_within.ensures.len, s.area.ok.0, v.ok.0) in
     let sound = subst Sound (sym t.rows) (sound_without k (row s) s.sound) in
     let sixteen = length-set s.counts i n ∙ s.sixteen in
     let tallied = subst (λ (j : ℕ). Tallied (set s.counts j (get_or s.counts j 0 - 1)) (decode (s.records - 1) (vec_items v))) (sym c.from.ensures) less in
     let fills = fills_set s.limit s.counts i n (omega (arith, s.sixteen)) (omega (arith, s.fills i)) s.fills in
-    (s.most, (room, (t.laid, (t.ends, (sound, (sixteen, (tallied, (fills, tt))))))))
+    record { most = s.most; room = room; laid = t.laid; ends = t.ends; sound = sound; sixteen = sixteen; tallied = tallied; fills = fills }
 
 pub returns : goal.returns
 returns c =
     let s = c.args.self.now in
     let k = c.args.c in
-    let t = take_row (vec_items s.area) (vec_items c.copy-within.new.self) s.records s.used k c.args.at c.args.size c.requires c.copy-within.ensures.items in
+    let t = take_row (vec_items s.area) (vec_items c.copy_within.new.self) s.records s.used k c.args.at c.args.size c.requires c.copy_within.ensures.items in
     let there = known s k c.args.at c.args.size c.requires in
     let some = held s k c.args.at c.args.size c.requires in
     let fewer : get_or (set s.counts k (get_or s.counts k 0 - 1)) k 0 + 1 ≡ get_or s.counts k 0 = omega (arith, get_or-set_same s.counts k (get_or s.counts k 0 - 1) 0 (omega (arith, s.sixteen))) in

@@ -5,6 +5,6 @@ use Rattle.roll.proofs.Roll.over.Goals as goal
 pub returns : goal.returns
 unfolding tabled
 returns c = record {
-  limit = c.limit-for-limit.ensures ∙ ap (λ (n : ℕ). min 16 (n / 16432)) c.len.ensures;
+  limit = c.limit_for-limit.ensures ∙ ap (λ (n : ℕ). min 16 (n / 16432)) c.len.ensures;
   empty = refl;
 }

@@ -9,8 +9,8 @@ returns c =
     let area = c.args.area.now in
     let at = c.args.at in
     let m = c.args.message.now in
-    let bytes = c.head-for.result in
-    let long = ap length c.head-for.ensures in
+    let bytes = c.head_for.result in
+    let long = ap length c.head_for.ensures in
     let first_fits : fits area at bytes ≡ true = le-leb (at + length bytes) (length area) (omega arith) in
     let head-end : c.store.result ≡ Some (at + length bytes) = c.store.ensures.end ∙ cond-true _ _ _ first_fits in
     let head-after : c.store.new.area ≡ written area at bytes = c.store.ensures.after ∙ cond-true _ _ _ first_fits in
@@ -24,5 +24,5 @@ returns c =
           c.store-2.ensures.after ∙ cond-true _ _ _ second_fits
           ∙ ap₂ (λ (xs : List ℕ) (k : ℕ). written xs k m) head-after from
           ∙ written_twice area bytes m at (omega arith)
-          ∙ ap (λ (xs : List ℕ). written area at (xs ++ m)) c.head-for.ensures;
+          ∙ ap (λ (xs : List ℕ). written area at (xs ++ m)) c.head_for.ensures;
     }

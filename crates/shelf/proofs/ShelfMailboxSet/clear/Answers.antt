@@ -7,10 +7,10 @@ use Rattle.shelf.proofs.ShelfMailboxSet.clear.Goals as goal
 pub returns-then-c-lt-CONNECTIONS : goal.returns-then-c-lt-CONNECTIONS
 returns-then-c-lt-CONNECTIONS c =
     let s = c.args.self.now in
-    let t = c.set-count.new.self in
+    let t = c.set_count.new.self in
     let i = c.args.c in
     let h : i < 16 = omega arith in
-    let e = c.set-count.ensures in
+    let e = c.set_count.ensures in
     record {
       after = tabled_set (row_of s) (row_of t) i [] h (emptied_here s t i h e) (λ k hk ne. emptied_other s t i h e k ne);
       bound = e.limit;

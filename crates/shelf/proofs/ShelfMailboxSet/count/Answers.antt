@@ -10,4 +10,4 @@ returns-then-c-ge-CONNECTIONS c = sym (ap length (tabled_past (row_of c.args.sel
 pub returns : goal.returns
 returns c =
     let s = c.args.self.now in
-    c.count-of.ensures.is ∙ sym (ap length (tabled_at (row_of s) c.args.c (omega arith)) ∙ row_length s c.args.c)
+    c.count_of.ensures.is ∙ sym (ap length (tabled_at (row_of s) c.args.c (omega arith)) ∙ row_length s c.args.c)

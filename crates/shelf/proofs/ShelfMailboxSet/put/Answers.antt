@@ -7,13 +7,13 @@ use Rattle.shelf.specs.Laws.{row_length}
 use Rattle.shelf.proofs.Queues.{appended_here, appended_other}
 use Rattle.shelf.proofs.ShelfMailboxSet.put.Goals as goal
 
-pub returns-then-is-full : goal.returns-then-is-full
-returns-then-is-full c =
+pub returns-then-is_full : goal.returns-then-is_full
+returns-then-is_full c =
     let s = c.args.self.now in
     let i = c.args.c in
     let m = c.args.message.now in
-    let good : misfit m ≡ false = or_from _ _ (sym c.if-is-empty.ensures) (le-ltb 1024 (length m) (omega arith)) in
-    let full = leb-true s.limit (count_in s i) (sym c.if-is-full.ensures) in
+    let good : misfit m ≡ false = or_from _ _ (sym c.if-is_empty.ensures) (le-ltb 1024 (length m) (omega arith)) in
+    let full = leb-true s.limit (count_in s i) (sym c.if-is_full.ensures) in
     let n = ap length (tabled_at (row_of s) i (omega arith)) ∙ row_length s i in
     let p = put_full s.limit (lists_of s) i m (omega arith) good (omega arith) in
     record { answer = p.0; after = p.1; bound = refl }
@@ -27,8 +27,8 @@ returns c =
     let e = c.append.ensures in
     let h : i < 16 = omega arith in
     let short : length m ≤ 1024 = omega arith in
-    let good : misfit m ≡ false = or_from _ _ (sym c.if-is-empty.ensures) (le-ltb 1024 (length m) short) in
-    let free = leb-false s.limit (count_in s i) (sym c.if-is-full.ensures) in
+    let good : misfit m ≡ false = or_from _ _ (sym c.if-is_empty.ensures) (le-ltb 1024 (length m) short) in
+    let free = leb-false s.limit (count_in s i) (sym c.if-is_full.ensures) in
     let n = row_length s i in
     let p =
     put_done (row_of s) (row_of t) s.limit i m h good (omega arith)

@@ -6,7 +6,7 @@ use Rattle.shelf.specs.Meaning.{row_of, lists_of, kept_in, slot_in}
 use Rattle.shelf.specs.Laws.{row_length}
 use Rattle.shelf.proofs.Queues.{row_first, advanced_here, advanced_other}
 use Rattle.shelf.proofs.ShelfMailboxSet.take.Goals as goal
-use Rattle.shelf.proofs.ShelfMailboxSet.take.Goals.{then-c-ge-CONNECTIONS-via-then-c-ge-CONNECTIONS, then-c-ge-CONNECTIONS-via-else-c-ge-CONNECTIONS+then-count-of-eq0}
+use Rattle.shelf.proofs.ShelfMailboxSet.take.Goals.{then-c-ge-CONNECTIONS-via-then-c-ge-CONNECTIONS, then-c-ge-CONNECTIONS-via-else-c-ge-CONNECTIONS+then-count_of-eq0}
 
 pub returns-then-c-ge-CONNECTIONS : goal.returns-then-c-ge-CONNECTIONS
 returns-then-c-ge-CONNECTIONS c =
@@ -14,7 +14,7 @@ returns-then-c-ge-CONNECTIONS c =
     let i = c.args.c in
     let none : waiting (lists_of s) i ≡ [] = elim c.then-c-ge-CONNECTIONS.branch [
       | then-c-ge-CONNECTIONS-via-then-c-ge-CONNECTIONS w ↦ tabled_past (row_of s) i (omega arith)
-      | then-c-ge-CONNECTIONS-via-else-c-ge-CONNECTIONS+then-count-of-eq0 w ↦
+      | then-c-ge-CONNECTIONS-via-else-c-ge-CONNECTIONS+then-count_of-eq0 w ↦
           tabled_at (row_of s) i (omega arith) ∙ nil_from_length (row_of s i) (omega (arith, row_length s i))
     ] in
     let d = take_none (row_of s) i c.args.buffer.now none in
@@ -41,4 +41,4 @@ returns c =
     take_done (row_of s) (row_of t) i c.args.buffer.now m (row_of t i) h (advanced_here s t i h e (omega arith)) (omega arith) refl
     (λ k hk ne. advanced_other s t i h e k ne)
     in
-    record { answer = ap Ok size ∙ d.0; after = d.1; buffer = ap₂ (λ (xs : List ℕ) (n : ℕ). xs ++ drop n c.args.buffer.now) (c.copy-from-slice.ensures.after ∙ c.oldest-message.ensures) size ∙ d.2; bound = e.limit }
+    record { answer = ap Ok size ∙ d.0; after = d.1; buffer = ap₂ (λ (xs : List ℕ) (n : ℕ). xs ++ drop n c.args.buffer.now) (c.copy_from_slice.ensures.after ∙ c.oldest-message.ensures) size ∙ d.2; bound = e.limit }
