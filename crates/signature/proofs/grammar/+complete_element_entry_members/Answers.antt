@@ -1,4 +1,4 @@
-use Rattle.std.proofs.Common.{◌≡◌, ℕ, ◌+◌, List, ◌∷◌, length, sym, refl, ap, ◌∙◌, arith}
+use Rattle.std.proofs.Common.{◌∷◌, arith}
 use Rattle.signature.specs.Phrases.{TypeAt}
 use Rattle.signature.proofs.Fronts.{weaken, shorter, one_rest, basic_there, variant_there, no_entry_there, array_there, array_of, struct_there, struct_of, no_head, dict_there, dict_of, type_there, type_of, value_there, entry_of, first_member, last_member, next_member, other_members}
 use Rattle.signature.proofs.grammar.+complete_element_entry_members.Goals as goal

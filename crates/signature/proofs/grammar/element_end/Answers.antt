@@ -1,4 +1,4 @@
-use Rattle.std.proofs.Common.{◌≡◌, ℕ, ◌-◌, ◌≤◌, List, length, drop, sym, ap, subst, arith}
+use Rattle.std.proofs.Common.{ℕ, ◌-◌, ◌≤◌, List, length, drop, sym, ap, subst, arith}
 use Rattle.signature.specs.Trees.{ElementEnds}
 use Rattle.signature.specs.Phrases.{ElementAt}
 use Rattle.signature.proofs.Spellings.{element_shallow}
