@@ -1,6 +1,6 @@
 -- The number that bytes stand for, the least significant first, and the bytes of a number.
 use Rattle.std.specs.Prelude.{◌≡◌, ℕ, zero, suc, ◌+◌, ◌*◌, ◌/◌, ◌%◌, ◌^◌, ◌<◌, List, [], ◌∷◌, reverse, length}
-use Rattle.std.specs.List.{AllByRecursion as All}
+use Rattle.std.specs.List.{AllByRecursion}
 
 abbrev pub Byte : ℕ → Type 0
 Byte b = b < 256
@@ -21,7 +21,7 @@ as_they_lie xs = xs
 -- An order keeps numbers: what is written reads back, and what is read and written again is the same, at every width.
 pub record Keeps (ordered : List ℕ → List ℕ) : Type 0 where
   pub reads_back : (n x : ℕ) → x < 256 ^ n → number (ordered (ordered (bytes_of n x))) ≡ x
-  pub writes_back : (xs : List ℕ) → All Byte xs → ordered (bytes_of (length xs) (number (ordered xs))) ≡ xs
+  pub writes_back : (xs : List ℕ) → AllByRecursion Byte xs → ordered (bytes_of (length xs) (number (ordered xs))) ≡ xs
 
 -- The bytes of a number in one order are those in the other, reversed, and bytes stand for the number of the reversed ones.
 pub record Mirrors (first second : List ℕ → List ℕ) : Type 0 where

@@ -3,7 +3,7 @@
 
 ghost use Rattle.std.specs.Prelude.{◌≡◌, ℕ, List, reverse, length};
 ghost use Rattle.std.proofs.lemmas.List.{reverse-reverse, length-reverse};
-ghost use Rattle.std.specs.List.{AllByRecursion as All};
+ghost use Rattle.std.specs.List.{AllByRecursion};
 ghost use Rattle.order.specs.Numbers.{Byte, Keeps, Mirrors, as_they_lie, number, bytes_of};
 ghost use Rattle.std.proofs.Common.{rules};
 ghost use Rattle.order.specs.Spreads.{all_reverse};
@@ -35,7 +35,7 @@ pub trait ByteOrder {
 
     ghost size: { (xs : List ℕ) → length (ordered xs) ≡ length xs };
 
-    ghost bytes: { (xs : List ℕ) → All Byte xs → All Byte (ordered xs) };
+    ghost bytes: { (xs : List ℕ) → AllByRecursion Byte xs → AllByRecursion Byte (ordered xs) };
 }
 
 // The least significant byte first.

@@ -1,6 +1,6 @@
 -- Elements one after the other, a separator before each.
 use Rattle.std.proofs.Common.{◌≡◌, ℕ, ◌<◌, ◌≤◌, Bool, List, [], ◌∷◌, ◌++◌, length, Some, None, Decides, Option, sym, ap, ◌∙◌, arith, Bor}
-use Rattle.std.specs.List.{AllByRecursion as All}
+use Rattle.std.specs.List.{AllByRecursion}
 use Rattle.std.proofs.lemmas.Bool.Decides.{Decides-like}
 use Rattle.std.proofs.lemmas.List.{length-append, nil_from_length}
 use Rattle.text.specs.Grammar.{Holds, Element, led, joined, Led, Dotted}
@@ -14,10 +14,10 @@ module _ (separator : ℕ) (kind : Kind) where
     element : List ℕ
     valid : Element kind element
     others : List (List ℕ)
-    all : All (Element kind) others
+    all : AllByRecursion (Element kind) others
     spells : separator ∷ (element ++ led separator others) ≡ bytes
 
-  parts_of : (bytes : List ℕ) (es : List (List ℕ)) → 1 ≤ length es → All (Element kind) es → led separator es ≡ bytes → Parts bytes
+  parts_of : (bytes : List ℕ) (es : List (List ℕ)) → 1 ≤ length es → AllByRecursion (Element kind) es → led separator es ≡ bytes → Parts bytes
   parts_of bytes [] some all e = absurd (omega arith)
   parts_of bytes (x ∷ xs) some all e = record { element = x; valid = all.0; others = xs; all = all.1; spells = e }
 
@@ -29,7 +29,7 @@ module _ (separator : ℕ) (kind : Kind) where
     ended_led [] = tt
     ended_led (e ∷ es) = apart
 
-    led_again : (es : List (List ℕ)) (rest : List ℕ) → All (Element kind) es → led separator es ≡ rest → 0 < length rest → Led separator kind rest
+    led_again : (es : List (List ℕ)) (rest : List ℕ) → AllByRecursion (Element kind) es → led separator es ≡ rest → 0 < length rest → Led separator kind rest
     led_again [] rest all e l = absurd (omega (arith, ap length e))
     led_again (x ∷ xs) rest all e l = record { elements = x ∷ xs; some = omega arith; valid = all; spells = e }
 
@@ -91,7 +91,7 @@ module _ (kind : Kind) (bytes rest : List ℕ) (f : Follows kind bytes rest) whe
     spells = ap (λ (t : List ℕ). f.element ++ t) l.spells ∙ f.spells;
   }
 
-  others_of : (es : List (List ℕ)) → 2 ≤ length es → All (Element kind) es → joined 46 es ≡ bytes → Led 46 kind rest
+  others_of : (es : List (List ℕ)) → 2 ≤ length es → AllByRecursion (Element kind) es → joined 46 es ≡ bytes → Led 46 kind rest
   others_of [] some all e = absurd (omega arith)
   others_of (x ∷ xs) some all e =
       let both = one_way kind x f.element (led 46 xs) rest (all_held kind x all.0) (all_held kind f.element f.valid) (ended_led 46 kind (dot_apart kind) xs) f.ended (e ∙ sym f.spells) in

@@ -1,6 +1,6 @@
 -- Bytes as an element and what follows it: there is one way to part them.
 use Rattle.std.proofs.Common.{◌≡◌, ℕ, zero, suc, ◌<◌, ◌≤◌, eqb, List, [], ◌∷◌, ◌++◌, length, get_or, take, drop, Decides, sym, refl, ap, ◌∙◌, subst, ap₂, append-nil, arith}
-use Rattle.std.specs.List.{AllByRecursion as All}
+use Rattle.std.specs.List.{AllByRecursion}
 use Rattle.std.proofs.ByRecursion.{All-from_get_or}
 use Rattle.std.proofs.lemmas.Bool.{eq-eqb, eqb-true}
 use Rattle.std.proofs.lemmas.List.{get_or-take, length-take-le, nil_from_length, take-append-drop}
@@ -9,12 +9,12 @@ use Rattle.text.specs.Scans.{Ended, Follows}
 use Rattle.text.specs.declared.element.Kind.{Kind}
 
 module _ (kind : Kind) where
-  pub all_held : (bytes : List ℕ) → Element kind bytes → All (Holds kind) bytes
+  pub all_held : (bytes : List ℕ) → Element kind bytes → AllByRecursion (Holds kind) bytes
   all_held [] h = absurd h
   all_held (b ∷ bs) h = (h.0.0, h.1)
 
   -- what is held at the front, up to a byte that is not held
-  pub one_way : (xs ys rest more : List ℕ) → All (Holds kind) xs → All (Holds kind) ys → Ended kind rest → Ended kind more → xs ++ rest ≡ ys ++ more → (xs ≡ ys) × (rest ≡ more)
+  pub one_way : (xs ys rest more : List ℕ) → AllByRecursion (Holds kind) xs → AllByRecursion (Holds kind) ys → Ended kind rest → Ended kind more → xs ++ rest ≡ ys ++ more → (xs ≡ ys) × (rest ≡ more)
   one_way [] [] rest more h k r m e = (refl, e)
   one_way [] (y ∷ ys) rest more h k r m e = absurd (subst (Ended kind) e r k.0)
   one_way (x ∷ xs) [] rest more h k r m e = absurd (subst (Ended kind) (sym e) m h.0)

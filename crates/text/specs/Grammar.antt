@@ -2,7 +2,7 @@
 -- The separators are `.`, 46, and `/`, 47.
 use Rattle.std.specs.Prelude.{◌≡◌, ℕ, ◌≤◌, ◌⊎◌, List, [], ◌∷◌, ◌++◌, length, Some, None, codes, Option}
 use Rattle.std.specs.Char.{IsAsciiDigit, IsAsciiAlphabetic}
-use Rattle.std.specs.List.{AllByRecursion as All}
+use Rattle.std.specs.List.{AllByRecursion}
 use Rattle.text.specs.declared.BusName.{BusName}
 use Rattle.text.specs.declared.BusName.TheVariants as bus
 use Rattle.text.specs.declared.element.Kind.{Kind}
@@ -33,7 +33,7 @@ Begins kind b = Holds kind b × (IsAsciiDigit b → DigitFirst kind)
 -- an element is one or more bytes, the first of which may begin it
 abbrev pub Element : Kind → List ℕ → Type 0
 Element kind [] = ⊥
-Element kind (b ∷ bs) = Begins kind b × All (Holds kind) bs
+Element kind (b ∷ bs) = Begins kind b × AllByRecursion (Holds kind) bs
 
 -- the separator before each element
 abbrev pub led : ℕ → List (List ℕ) → List ℕ
@@ -49,14 +49,14 @@ joined separator (e ∷ es) = e ++ led separator es
 pub record Led (separator : ℕ) (kind : Kind) (bytes : List ℕ) : Type 0 where
   pub elements : List (List ℕ)
   pub some : 1 ≤ length elements
-  pub valid : All (Element kind) elements
+  pub valid : AllByRecursion (Element kind) elements
   pub spells : led separator elements ≡ bytes
 
 -- two or more elements, a `.` between them
 pub record Dotted (kind : Kind) (bytes : List ℕ) : Type 0 where
   pub elements : List (List ℕ)
   pub some : 2 ≤ length elements
-  pub valid : All (Element kind) elements
+  pub valid : AllByRecursion (Element kind) elements
   pub spells : joined 46 elements ≡ bytes
 
 -- an object path: `/` alone, or `/` before each of one or more elements
