@@ -1,8 +1,8 @@
 -- The examples of signatures.
-use Rattle.std.proofs.Common.{◌≡◌, ℕ, zero, suc, ◌≤◌, List, [], ◌∷◌, length, codes, sym, refl, ap, ◌∙◌, add-one, arith}
+use Rattle.std.proofs.Common.{◌≡◌, ℕ, zero, suc, ◌≤◌, List, [], ◌∷◌, length, codes, sym, refl, ap, ◌∙◌, arith}
 use Rattle.signature.specs.declared.codes.Basic.TheVariants.{Byte, Text}
 use Rattle.signature.specs.declared.codes.Head.TheVariants as head
-use Rattle.signature.specs.Trees.{Tree, basic, variant, array, single, entry, Trees, none, more, spell, spell_all, arrays, all_arrays, structs, Signature}
+use Rattle.signature.specs.Trees.{Tree, basic, variant, array, single, entry, none, more, spell, arrays, all_arrays, structs, Signature}
 use Rattle.signature.specs.Phrases.{TypeAt}
 use Rattle.signature.specs.Examples.{nested, Examples}
 use Rattle.signature.proofs.Heads.{head_once, apart}

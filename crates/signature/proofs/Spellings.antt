@@ -1,8 +1,6 @@
 -- A spelling begins with its type's head, is longer than its rest, and is of one type.
 use Rattle.std.proofs.Common.{◌≡◌, ℕ, ◌+◌, ◌<◌, ◌≤◌, List, [], ◌∷◌, ◌++◌, length, sym, refl, ap, ◌∙◌, ap₂, arith}
 use mathlib.Core.List.{head-eq_of_cons-eq, tail-eq_of_cons-eq}
-use Rattle.signature.specs.declared.codes.Basic.{Basic}
-use Rattle.signature.specs.declared.codes.Head.{Head}
 use Rattle.signature.specs.declared.codes.Head.TheVariants as head
 use Rattle.signature.specs.Codes.{code, head_code}
 use Rattle.signature.specs.Trees.{Tree, basic, variant, array, struct, Element, single, entry, Trees, none, more, spell, spell_element, spell_all, head_of_type, head_of_element, arrays, element_arrays, all_arrays, structs, element_structs, all_structs, SpelledOnce}

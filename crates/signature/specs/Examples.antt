@@ -1,5 +1,5 @@
 -- Texts that are signatures, and some that are none.
-use Rattle.std.specs.Prelude.{ℕ, List, [], ◌∷◌, ◌++◌, replicate, codes}
+use Rattle.std.specs.Prelude.{ℕ, List, ◌++◌, replicate, codes}
 use Rattle.signature.specs.Trees.{Signature}
 
 -- so many times `a`, and then `y`

@@ -31,7 +31,7 @@ pub fn is_text(bytes: &[u8]) -> bool
 pub fn is_path(bytes: &[u8]) -> bool
     ensures { Decides result (Path bytes.now) }
 {
-    bytes == b"/" || is_led(bytes, b'/', Kind::Path)
+    bytes == b"/".as_slice() || is_led(bytes, b'/', Kind::Path)
 }
 
 // Whether the bytes are a member name.

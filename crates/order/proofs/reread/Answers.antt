@@ -1,4 +1,4 @@
-use Rattle.std.proofs.Common.{◌≡◌, ℕ, ◌^◌, ◌<◌, length, sym, ap, ◌∙◌, arith}
+use Rattle.std.proofs.Common.{◌≡◌, ℕ, ◌^◌, ◌<◌, sym, ap, ◌∙◌, arith}
 use Rattle.order.specs.Numbers.{number, bytes_of}
 use Rattle.order.proofs.Trips.{read_written, written_read}
 use Rattle.order.proofs.reread.Goals as goal

@@ -1,4 +1,4 @@
-use Rattle.std.proofs.Common.{◌≡◌, ℕ, ◌-◌, ◌≤◌, List, length, drop, sym, ap, subst, arith}
+use Rattle.std.proofs.Common.{ℕ, ◌-◌, ◌≤◌, List, length, drop, sym, ap, subst, arith}
 use Rattle.signature.specs.Trees.{ElementEnds}
 use Rattle.signature.specs.Phrases.{ElementAt}
 use Rattle.signature.proofs.Spellings.{element_shallow}
@@ -15,14 +15,14 @@ deepest s n m l h =
 ends : (s rest : List ℕ) (m : ℕ) → ElementAt s m m rest → ElementEnds s (length s - length rest)
 ends s rest m h = record { element = h.element; within = omega arith; spells = element_ends h.element s rest h.spells }
 
-pub returns-in-err-rest : goal.returns-in-err-rest
-returns-in-err-rest c =
+pub returns-in_err-rest : goal.returns-in_err-rest
+returns-in_err-rest c =
     let s = c.args.bytes.now in
     let big : length s ≤ 18446744073709551615 = omega arith in
-    rw c.from-residual.ensures (λ n h. c.in-err-rest.ensures (drop n s) (deepest s n 18446744073709551615 big h))
+    rw c.from_residual.ensures (λ n h. c.in_err-rest.ensures (drop n s) (deepest s n 18446744073709551615 big h))
 
 pub returns : goal.returns
 returns c =
     let s = c.args.bytes.now in
     let P : ℕ → Type 0 = λ n. ElementEnds s n in
-    subst P (sym c.begin-of.ensures) (ends s c.in-ok-rest.rest.now 18446744073709551615 c.in-ok-rest.ensures)
+    subst P (sym c.begin_of.ensures) (ends s c.in_ok-rest.rest.now 18446744073709551615 c.in_ok-rest.ensures)

@@ -10,6 +10,6 @@ decided s (Some n) h = (λ _. h.0, λ _. refl)
 
 pub returns : goal.returns
 returns c =
-    let d = decided c.args.bytes.now c.first-type.result c.first-type.ensures in
-    let e = c.is-some.ensures in
+    let d = decided c.args.bytes.now c.first_type.result c.first_type.ensures in
+    let e = c.is_some.ensures in
     record { value = (λ t. d.0 (sym e ∙ t), λ h. e ∙ d.1 h); once = spelled_once }

@@ -6,7 +6,7 @@ pub returns-in-Some : goal.returns-in-Some
 returns-in-Some c =
     let s = c.args.bytes.now in
     let h = c.in-Some.ensures in
-    let d = c.is-whole.ensures in (
+    let d = c.is_whole.ensures in (
       λ e. let k = d.0 e in one_type s c.in-Some.end h.0 h.1 k.0 k.1,
       λ k. d.1 (one_end s c.in-Some.end h.0 h.1 k),
     )
