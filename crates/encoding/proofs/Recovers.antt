@@ -13,7 +13,7 @@ use Rattle.items.specs.Items.{Leaf, Typed, Opened, Headed, codes_at}
 use Rattle.items.proofs.Once.{opened_moves, headed_moves}
 use Rattle.values.specs.Values.{lies_as, Value, leaf, struct_bad, struct_is, array_bad, array_is, variant_bad, variant_is, Values, ends, goes, fails, Elements, no_more, one_more, bad_one}
 use Rattle.encoding.specs.Data.{Datum, plain, tuple, list, tagged, Data, nil, cons, Items, empty, push, Shallow, ShallowAll, ShallowItems}
-use Rattle.encoding.specs.Encodings.{Lies, IsByteOrder, place, codes, encode, encode_all, encode_items}
+use Rattle.encoding.specs.Encodings.{Lies, IsByteOrder, codes, encode, encode_all, encode_items}
 use Rattle.encoding.proofs.Spans.{long, nothing, join, within, without}
 use Rattle.encoding.proofs.Reading.{opened_tells, coded_tells, leaf_tells, headed_tells}
 

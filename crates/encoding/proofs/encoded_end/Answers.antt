@@ -1,4 +1,4 @@
-use Rattle.std.proofs.Common.{◌≡◌, ℕ, ◌^◌, ◌<◌, List, length, get_or, Ok, Err, sym, inl, inr, rules}
+use Rattle.std.proofs.Common.{ℕ, ◌^◌, ◌<◌, List, length, get_or, Ok, Err, inl, inr, rules}
 use Rattle.std.specs.List.{AllByRecursion as All}
 use Rattle.order.specs.Numbers.{Byte}
 use Rattle.order.specs.Spreads.{all_from}
