@@ -1,5 +1,5 @@
 use Rattle.std.proofs.lemmas.Result.{err_from_is_err_and}
-use Rattle.std.proofs.Common.{Ok, Err, arith}
+use Rattle.std.proofs.Common.{Err, arith}
 use Rattle.fields.specs.Headers.{no_more, bad_one, one_more}
 use Rattle.fields.proofs.Parts.{one_on}
 use Rattle.fields.proofs.read.all_fields.Goals as goal

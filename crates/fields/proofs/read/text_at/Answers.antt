@@ -1,4 +1,4 @@
-use Rattle.std.proofs.Common.{◌≡◌, ℕ, ◌+◌, ◌<◌, ◌≤◌, List, length, take, drop, Some, None, Option, unwrap_or, sym, ap, ◌∙◌, arith, MatchOption}
+use Rattle.std.proofs.Common.{◌≡◌, ℕ, ◌+◌, ◌<◌, ◌≤◌, length, take, drop, Some, None, Option, unwrap_or, ap, ◌∙◌, arith, MatchOption}
 use Rattle.std.proofs.lemmas.List.{take_rest}
 use Rattle.fields.proofs.read.text_at.Goals as goal
 
