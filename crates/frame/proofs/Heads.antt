@@ -1,5 +1,5 @@
 -- The first bytes of a message, as its frame has them.
-use Rattle.std.proofs.Common.{◌≡◌, ℕ, ◌+◌, ◌≤◌, cond, eqb, List, [], ◌∷◌, length, get_or, take, drop, sym, refl, ap, ◌∙◌, add-zero, arith}
+use Rattle.std.proofs.Common.{◌≡◌, ℕ, ◌+◌, ◌≤◌, cond, eqb, List, length, get_or, take, drop, sym, ap, ◌∙◌, add-zero}
 use Rattle.order.specs.Numbers.{number}
 use Rattle.items.proofs.Spread.{taken}
 use Rattle.frame.specs.declared.Frame.{Frame}
@@ -7,7 +7,7 @@ use Rattle.frame.specs.declared.kinds.Order.{Order}
 use Rattle.frame.specs.declared.kinds.Order.TheVariants.{Little, Big}
 use Rattle.frame.specs.Firsts.{four}
 use Rattle.frame.specs.Kinds.{mark, ordered}
-use Rattle.frame.specs.Frames.{order_at, number_in, Marked}
+use Rattle.frame.specs.Frames.{order_at, number_in}
 
 pub order_is : (bytes : List ℕ) (o : Order) → mark o ≡ get_or bytes 0 0 → order_at bytes ≡ o
 order_is bytes Little e = ap (λ (m : ℕ). cond (eqb m 66) Big Little) (sym e)

@@ -1,5 +1,5 @@
 -- A conversation over a list of lines, one line more.
-use Rattle.std.proofs.Common.{◌≡◌, ℕ, ◌+◌, ◌<◌, ◌≤◌, List, [], ◌∷◌, ◌++◌, map, length, get_or, take, drop, sym, refl, ap, ◌∙◌, Bor}
+use Rattle.std.proofs.Common.{◌≡◌, ℕ, ◌+◌, ◌<◌, ◌≤◌, List, [], ◌∷◌, ◌++◌, map, length, get_or, take, drop, sym, ap, ◌∙◌, Bor}
 use Rattle.std.proofs.lemmas.List.{map_push, map_more, map-append, take-append-drop, take_all}
 use Rattle.handshake.specs.Law.{Exchange, spoken}
 

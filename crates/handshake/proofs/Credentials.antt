@@ -1,12 +1,12 @@
 -- The uid's text, digit by digit from its end.
-use Rattle.std.proofs.Common.{◌≡◌, ℕ, ◌+◌, ◌-◌, ◌/◌, ◌%◌, ◌^◌, ◌<◌, ◌≤◌, Bool, true, false, List, [], ◌∷◌, ◌++◌, length, decimal, Decides, sym, refl, ap, ◌∙◌, inl, inr, ⊎_elim, arith, length-append, rules}
+use Rattle.std.proofs.Common.{◌≡◌, ℕ, ◌+◌, ◌/◌, ◌%◌, ◌^◌, ◌<◌, ◌≤◌, Bool, false, List, [], ◌∷◌, ◌++◌, length, decimal, Decides, sym, ap, ◌∙◌, ⊎_elim, arith, length-append}
 use Rattle.std.specs.Str.{bytes_eq}
 use Rattle.std.proofs.lemmas.Fmt.{decimal_digit, decimal_step}
 use Rattle.std.proofs.lemmas.Slice.Eq.{bytes_eq-Decides}
 use Rattle.std.proofs.lemmas.List.{append_assoc, same_from_push}
 use Rattle.std.proofs.lemmas.Bool.{cases_lt, false≢true}
 use Rattle.std.proofs.lemmas.Bool.Decides.{same_from_decides, Decides-like}
-use Rattle.hex_digits.specs.Hex.{digit, pairs}
+use Rattle.hex_digits.specs.Hex.{pairs}
 use Rattle.hex_digits.proofs.Pairs.{digit_below, pairs_append}
 use Rattle.handshake.specs.Texts.{credential}
 

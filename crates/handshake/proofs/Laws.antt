@@ -1,5 +1,5 @@
 -- A program has begun exactly if it has shown who it is.
-use Rattle.std.proofs.Common.{◌≡◌, ℕ, ◌≤◌, Bool, true, false, cond, ltb, ◌⊎◌, List, [], ◌∷◌, ◌++◌, length, get_or, Ok, Err, codes, Decides, Result, sym, refl, ap, ◌∙◌, subst, inl, inr, ⊎_elim, append_assoc, arith}
+use Rattle.std.proofs.Common.{◌≡◌, ℕ, ◌≤◌, Bool, true, false, cond, ltb, ◌⊎◌, List, [], ◌∷◌, ◌++◌, length, get_or, Ok, Err, codes, Decides, Result, sym, refl, ap, ◌∙◌, subst, inl, inr, arith}
 use Rattle.std.specs.List.{AllByRecursion as All}
 use Rattle.std.specs.Str.{bytes_eq}
 use Rattle.std.proofs.lemmas.Slice.Eq.{bytes_eq-Decides}
@@ -10,11 +10,10 @@ use Rattle.handshake.specs.declared.machine.State.{State}
 use Rattle.handshake.specs.declared.machine.State.TheVariants.{WaitingForAuth, WaitingForBegin, Begun}
 use Rattle.handshake.specs.declared.machine.Refusal.{Refusal}
 use Rattle.handshake.specs.declared.machine.Refusal.TheVariants.{ShortBuffer}
-use Rattle.handshake.specs.declared.reply.Reply.{Reply}
 use Rattle.handshake.specs.declared.reply.Reply.TheVariants as reply
 use Rattle.handshake.specs.Lines.{Command, external, other_auth, error, begin, cancel, unknown, read}
 use Rattle.handshake.specs.Texts.{credential, wording}
-use Rattle.handshake.specs.Machine.{Turn, says, refuses, turn, worded, machine, begun, heard, counted, filled, moved}
+use Rattle.handshake.specs.Machine.{says, refuses, turn, worded, machine, begun, heard, counted, filled, moved}
 use Rattle.handshake.specs.Law.{Exchange, said, exchanged, Leads, Conversation, Rejected, Authenticated, Law}
 use Rattle.handshake.proofs.Hearing.{heard_next}
 use Rattle.handshake.proofs.Reading.{read_external, read_begin}

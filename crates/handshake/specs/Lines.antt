@@ -1,5 +1,5 @@
 -- How a line is read: the word before its first space, the text after it, and what the two say.
-use Rattle.std.specs.Prelude.{ℕ, Bool, true, false, cond, ◌&&◌, List, [], ◌∷◌, length, Some, None, codes, Option, ◌==◌, nat_le}
+use Rattle.std.specs.Prelude.{ℕ, Bool, true, cond, ◌&&◌, List, [], ◌∷◌, length, Some, None, codes, Option, ◌==◌, nat_le}
 use Rattle.std.specs.Str.{bytes_eq}
 use Rattle.handshake.specs.declared.parse.Line.{Line}
 use Rattle.handshake.specs.declared.parse.Line.TheVariants as line

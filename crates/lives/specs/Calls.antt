@@ -1,5 +1,5 @@
 -- What open, line and close answer, and what the table holds after them.
-use Rattle.std.specs.Prelude.{ℕ, Bool, false, cond, List, length, Some, None, Ok, Err, Option, Result, nat_lt, slice_index_or, slice_set}
+use Rattle.std.specs.Prelude.{ℕ, Bool, false, cond, List, Some, None, Ok, Err, Option, Result, nat_lt, slice_index_or, slice_set}
 use Rattle.handshake.specs.declared.machine.Handshake.{Handshake}
 use Rattle.handshake.specs.declared.machine.State.{State}
 use Rattle.handshake.specs.declared.machine.Refusal as handshake

@@ -1,5 +1,5 @@
 -- What a call wrote to its buffer, from the count and the buffer after it.
-use Rattle.std.proofs.Common.{◌≡◌, ℕ, List, length, take, Ok, Err, Result, sym, refl, ap, ◌∙◌}
+use Rattle.std.proofs.Common.{◌≡◌, ℕ, List, length, take, Ok, Err, Result, refl, ap, ◌∙◌}
 use Rattle.std.proofs.lemmas.List.{take_at}
 use Rattle.handshake.specs.Machine.{counted, filled}
 use Rattle.lives.specs.declared.calls.Refusal.{Refusal}

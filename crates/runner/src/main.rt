@@ -72,7 +72,7 @@ fn replay_input(rt: &HostRuntime) -> anyhow::Result<Tally> {
 
 fn run(rt: &HostRuntime) -> anyhow::Result<()> {
     for word in env::args(rt)?.skip(1) {
-        if word == "--help" {
+        if word.as_str() == "--help" {
             rt.print(HELP)?;
             return Ok(());
         }

@@ -1,5 +1,5 @@
 -- How numbers, bytes and words are written in a row.
-use Rattle.std.specs.Prelude.{◌≡◌, ℕ, ◌<◌, List, [], ◌∷◌, ◌++◌, length, ◌≢◌, slice_index}
+use Rattle.std.specs.Prelude.{ℕ, ◌<◌, List, [], ◌∷◌, ◌++◌, length, ◌≢◌, slice_index}
 use Rattle.hex_digits.specs.Hex.{pairs}
 
 -- bytes as a word: '-' for none

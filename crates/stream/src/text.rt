@@ -67,7 +67,7 @@ pub fn unhex(heap: Global, text: &[u8]) -> Result<Vec<u8>, Fault>
     ensures { MatchResult result (λ v. Bytes v.items × (text.now ≡ hex v.items)) (λ e. (e ≡ OutOfMemory → 1 < length text.now) × ((e ≢ OutOfMemory) → (bs : List ℕ) → Bytes bs → text.now ≢ hex bs)) }
 {
     let mut bytes = Vec::new(heap);
-    if text == b"-" {
+    if text == b"-".as_slice() {
         return Ok(bytes);
     }
     if text.is_empty() {

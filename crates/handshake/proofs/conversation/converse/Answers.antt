@@ -1,9 +1,9 @@
-use Rattle.std.proofs.Common.{◌≡◌, ℕ, ◌+◌, List, [], ◌∷◌, ◌++◌, map, drop, Ok, Err, Result, sym, refl, ap, ◌∙◌, subst, inl, inr, arith, rules}
+use Rattle.std.proofs.Common.{◌≡◌, ℕ, ◌+◌, List, [], ◌∷◌, ◌++◌, map, drop, Err, Result, sym, refl, ap, ◌∙◌, subst, inl, inr, arith, rules}
 use Rattle.handshake.specs.declared.machine.Handshake.{Handshake}
 use Rattle.handshake.specs.declared.machine.State.{State}
 use Rattle.handshake.specs.declared.machine.Refusal.{Refusal}
 use Rattle.handshake.specs.declared.machine.Refusal.TheVariants.{EarlyBegin}
-use Rattle.handshake.specs.Law.{Exchange, exchanged, said, Conversation, Law}
+use Rattle.handshake.specs.Law.{Exchange, exchanged, said, Conversation}
 use Rattle.handshake.proofs.Covering.{one_more, all_of_them, and_the_rest}
 use Rattle.handshake.proofs.Laws.{law}
 use Rattle.handshake.proofs.conversation.converse.Goals as goal

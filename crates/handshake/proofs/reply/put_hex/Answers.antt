@@ -1,8 +1,7 @@
-use Rattle.std.proofs.Common.{◌≡◌, ℕ, ◌+◌, ◌-◌, ◌*◌, ◌/◌, ◌%◌, ◌≤◌, List, [], ◌∷◌, ◌++◌, length, get_or, take, drop, sym, refl, ap, ◌∙◌, add-zero, arith}
+use Rattle.std.proofs.Common.{◌≡◌, ℕ, ◌+◌, ◌*◌, ◌/◌, ◌%◌, List, [], ◌∷◌, ◌++◌, length, get_or, take, sym, ap, ◌∙◌, add-zero, arith}
 use Rattle.std.proofs.lemmas.List.{take-append-drop, take_more, take_all, length-take-le}
 use Rattle.hex_digits.specs.Hex.{digit, pairs}
 use Rattle.hex_digits.proofs.Pairs.{length_pairs, pairs_append}
-use Rattle.area.specs.Writes.{written}
 use Rattle.area.proofs.Joins.{written_twice}
 use Rattle.handshake.proofs.reply.put_hex.Goals as goal
 

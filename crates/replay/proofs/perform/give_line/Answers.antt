@@ -1,4 +1,4 @@
-use Rattle.std.proofs.Common.{◌≡◌, ℕ, List, length, take, sym, refl, ap, ◌∙◌, arith}
+use Rattle.std.proofs.Common.{◌≡◌, ℕ, List, length, take, ap, ◌∙◌}
 use Rattle.std.proofs.lemmas.List.{with_items_is}
 use Rattle.lives.specs.Calls.{Table, Done, lined}
 use Rattle.stream.specs.Replies.{wrote, refused}
@@ -11,13 +11,13 @@ returns-in-Ok c =
     let t : Table = c.args.lives.now.table in
     let id : List ℕ = c.args.lives.now.id in
     let line : List ℕ = c.args.line.now in
-    let out : List ℕ = c.as-mut-slice.result.now in
+    let out : List ℕ = c.as_mut_slice.result.now in
     let given : ℕ → Done (List ℕ) = λ n. lined t id c.args.c line n in
     let size : length out ≡ c.args.size =
-    c.as-mut-slice.ensures.len ∙ c.in-ok-buffer.ensures.len ∙ c.from.ensures
+    c.as_mut_slice.ensures.len ∙ c.in_ok-buffer.ensures.len ∙ c.from.ensures
     in
-    let long : length c.line.new.out ≡ c.in-ok-buffer.buffer.len = c.line.auto.out ∙ c.as-mut-slice.ensures.len in
-    let whole = with_items_is c.in-ok-buffer.buffer c.line.new.out long in
+    let long : length c.line.new.out ≡ c.in_ok-buffer.buffer.len = c.line.auto.out ∙ c.as_mut_slice.ensures.len in
+    let whole = with_items_is c.in_ok-buffer.buffer c.line.new.out long in
     record {
       answer =
           ap wrote (c.truncate.ensures.items ∙ ap (take c.in-Ok.count) (whole ∙ c.line.ensures.buffer))
@@ -32,10 +32,10 @@ returns-in-Err c =
     let t : Table = c.args.lives.now.table in
     let id : List ℕ = c.args.lives.now.id in
     let line : List ℕ = c.args.line.now in
-    let out : List ℕ = c.as-mut-slice.result.now in
+    let out : List ℕ = c.as_mut_slice.result.now in
     let given : ℕ → Done (List ℕ) = λ n. lined t id c.args.c line n in
     let size : length out ≡ c.args.size =
-    c.as-mut-slice.ensures.len ∙ c.in-ok-buffer.ensures.len ∙ c.from.ensures
+    c.as_mut_slice.ensures.len ∙ c.in_ok-buffer.ensures.len ∙ c.from.ensures
     in
     record {
       answer =

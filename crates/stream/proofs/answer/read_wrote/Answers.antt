@@ -6,28 +6,28 @@ use Rattle.stream.specs.Replies.{Accepted}
 use Rattle.stream.proofs.Exits.{stopped, rest_same, first_same, second_same}
 use Rattle.stream.proofs.answer.read_wrote.Goals as goal
 
-pub returns-in-err-count : goal.returns-in-err-count
-returns-in-err-count c =
-    stopped (Accepted _ _) c.from-residual.result _ c.from-residual.ensures.1 (
-      λ o. absurd (c.in-err-count.ensures.0 o),
+pub returns-in_err-count : goal.returns-in_err-count
+returns-in_err-count c =
+    stopped (Accepted _ _) c.from_residual.result _ c.from_residual.ensures.1 (
+      λ o. absurd (c.in_err-count.ensures.0 o),
       λ ne s.
-          c.in-err-count.ensures.1 (length s.0) (hex s.0 ∷ []) (omega arith) s.3,
+          c.in_err-count.ensures.1 (length s.0) (hex s.0 ∷ []) (omega arith) s.3,
     )
 
-pub returns-in-err-bytes : goal.returns-in-err-bytes
-returns-in-err-bytes c =
-    stopped (Accepted _ _) c.from-residual-in-err-bytes.result _ c.from-residual-in-err-bytes.ensures.1 (
+pub returns-in_err-bytes : goal.returns-in_err-bytes
+returns-in_err-bytes c =
+    stopped (Accepted _ _) c.from_residual-in_err-bytes.result _ c.from_residual-in_err-bytes.ensures.1 (
       λ _. refl,
       λ ne s.
-          c.in-err-bytes.ensures ne s.0 [] s.2 (rest_same c.in-ok-count.ensures.1 s.3),
+          c.in_err-bytes.ensures ne s.0 [] s.2 (rest_same c.in_ok-count.ensures.1 s.3),
     )
 
 pub returns-else-len-count : goal.returns-else-len-count
 returns-else-len-count c = (
   λ _. refl,
   λ _ s.
-      let e = c.in-ok-count.ensures in
-      let d = decimal_injective c.in-ok-count.count (length s.0) (omega (arith, e.0)) (omega arith) (first_same e.1 s.3) in
-      let l = same_length (vec_items c.in-ok-bytes.bytes) s.0 (second_same e.1 c.in-ok-bytes.ensures.1 s.3) in
-      c.if-len-count.false (c.len.ensures ∙ c.in-ok-bytes.bytes.ok.0 ∙ l ∙ sym d),
+      let e = c.in_ok-count.ensures in
+      let d = decimal_injective c.in_ok-count.count (length s.0) (omega (arith, e.0)) (omega arith) (first_same e.1 s.3) in
+      let l = same_length (vec_items c.in_ok-bytes.bytes) s.0 (second_same e.1 c.in_ok-bytes.ensures.1 s.3) in
+      c.if-len-count.false (c.len.ensures ∙ c.in_ok-bytes.bytes.ok.0 ∙ l ∙ sym d),
 )

@@ -4,26 +4,26 @@ use Rattle.stream.specs.Calls.{Arguments}
 use Rattle.stream.proofs.Exits.{stopped, rest_same}
 use Rattle.stream.proofs.call.read_line.Goals as goal
 
-pub returns-in-err-connection : goal.returns-in-err-connection
-returns-in-err-connection c =
-    stopped (Arguments _ _) c.from-residual.result _ c.from-residual.ensures.1 (
-      λ o. absurd (c.in-err-connection.ensures.0 o),
+pub returns-in_err-connection : goal.returns-in_err-connection
+returns-in_err-connection c =
+    stopped (Arguments _ _) c.from_residual.result _ c.from_residual.ensures.1 (
+      λ o. absurd (c.in_err-connection.ensures.0 o),
       λ ne s.
-          c.in-err-connection.ensures.1 s.0 (hex s.1 ∷ (decimal s.2 ∷ [])) (omega arith) s.6,
+          c.in_err-connection.ensures.1 s.0 (hex s.1 ∷ (decimal s.2 ∷ [])) (omega arith) s.6,
     )
 
-pub returns-in-err-bytes : goal.returns-in-err-bytes
-returns-in-err-bytes c =
-    stopped (Arguments _ _) c.from-residual-in-err-bytes.result _ c.from-residual-in-err-bytes.ensures.1 (
+pub returns-in_err-bytes : goal.returns-in_err-bytes
+returns-in_err-bytes c =
+    stopped (Arguments _ _) c.from_residual-in_err-bytes.result _ c.from_residual-in_err-bytes.ensures.1 (
       λ _. tt,
       λ ne s.
-          c.in-err-bytes.ensures ne s.1 (decimal s.2 ∷ []) s.4 (rest_same c.in-ok-connection.ensures.1 s.6),
+          c.in_err-bytes.ensures ne s.1 (decimal s.2 ∷ []) s.4 (rest_same c.in_ok-connection.ensures.1 s.6),
     )
 
-pub returns-in-err-size : goal.returns-in-err-size
-returns-in-err-size c =
-    stopped (Arguments _ _) c.from-residual-in-err-size.result _ c.from-residual-in-err-size.ensures.1 (
-      λ o. absurd (c.in-err-size.ensures.0 o),
+pub returns-in_err-size : goal.returns-in_err-size
+returns-in_err-size c =
+    stopped (Arguments _ _) c.from_residual-in_err-size.result _ c.from_residual-in_err-size.ensures.1 (
+      λ o. absurd (c.in_err-size.ensures.0 o),
       λ ne s.
-          c.in-err-size.ensures.1 s.2 [] (omega arith) (rest_same c.in-ok-bytes.ensures.1 (rest_same c.in-ok-connection.ensures.1 s.6)),
+          c.in_err-size.ensures.1 s.2 [] (omega arith) (rest_same c.in_ok-bytes.ensures.1 (rest_same c.in_ok-connection.ensures.1 s.6)),
     )

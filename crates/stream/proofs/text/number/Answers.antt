@@ -3,17 +3,17 @@ use Rattle.stream.proofs.Numbers.{parsed, at_first, no_none, no_plus, no_lead, n
 use Rattle.stream.proofs.text.number.Goals as goal
 use Rattle.stream.proofs.text.number.Goals.{else-first-eq48-via-then-first-eq48+else-text-gt1, else-first-eq48-via-else-first-eq48}
 
-pub returns-in-err-first : goal.returns-in-err-first
-returns-in-err-first c = rw c.from-residual.ensures (no_none c.args.text.now (omega (arith, c.in-err-first.ensures.item)))
+pub returns-in_err-first : goal.returns-in_err-first
+returns-in_err-first c = rw c.from_residual.ensures (no_none c.args.text.now (omega (arith, c.in_err-first.ensures.item)))
 
 pub returns-then-first-eq43 : goal.returns-then-first-eq43
 returns-then-first-eq43 c =
-    let a = at_first c.args.text.now c.in-ok-first.field-0 c.in-ok-first.ensures.item in
+    let a = at_first c.args.text.now c.in_ok-first.field-0 c.in_ok-first.ensures.item in
     no_plus c.args.text.now a.0 (a.1 ∙ c.if-first-eq43.true)
 
 pub returns-then-text-gt1 : goal.returns-then-text-gt1
 returns-then-text-gt1 c =
-    let a = at_first c.args.text.now c.in-ok-first.field-0 c.in-ok-first.ensures.item in
+    let a = at_first c.args.text.now c.in_ok-first.field-0 c.in_ok-first.ensures.item in
     no_lead c.args.text.now (omega arith) (a.1 ∙ c.if-first-eq48.true)
 
 pub returns-in-Err : goal.returns-in-Err
@@ -21,7 +21,7 @@ returns-in-Err c = no_utf8 c.args.text.now c.in-Err.ensures.cases.0
 
 pub returns-in-Ok : goal.returns-in-Ok
 returns-in-Ok c =
-    let a = at_first c.args.text.now c.in-ok-first.field-0 c.in-ok-first.ensures.item in
+    let a = at_first c.args.text.now c.in_ok-first.field-0 c.in_ok-first.ensures.item in
     let r = parsed _ c.args.text.now c.parse.result
     (rw c.in-Ok.ensures.cases.0 at c.parse.ensures.value.0)
     (λ e. c.if-first-eq43.false (sym a.1 ∙ e))

@@ -1,4 +1,4 @@
-use Rattle.std.proofs.Common.{◌≡◌, ℕ, ◌<◌, List, length, Ok, Err, Result, sym, refl, ap, ◌∙◌}
+use Rattle.std.proofs.Common.{ℕ, List, length, Ok, Err, Result, sym, ap, ◌∙◌}
 use Rattle.std.proofs.lemmas.Result.{err_from_is_err_and}
 use Rattle.handshake.specs.declared.machine.Handshake.{Handshake}
 use Rattle.handshake.specs.declared.machine.Refusal.{Refusal}
@@ -20,20 +20,20 @@ returns-then-out-lt-ROOM c =
     let buffer = ap (λ (t : Turn (List ℕ)). filled t.answer out) (sym short) in
     record { answer = answer; after = after; buffer = buffer; grows = line_grows h h id line out out (Err ShortBuffer) answer after buffer }
 
-pub returns-in-err-reply : goal.returns-in-err-reply
-returns-in-err-reply c =
+pub returns-in_err-reply : goal.returns-in_err-reply
+returns-in_err-reply c =
     let id : List ℕ = c.args.id.now in
     let h : Handshake = c.args.self.now in
     let line : List ℕ = c.args.line.now in
     let out : List ℕ = c.args.out.now in
     let room = c.if-out-lt-ROOM.false in
-    let p = err_from_is_err_and c.from-residual.result c.from-residual.ensures.1 in
-    let a = heard_answer h.state h.uid id line (length out) room _ c.parse.ensures (Err c.in-err-reply.field-0.0) c.in-err-reply.ensures.answer in
+    let p = err_from_is_err_and c.from_residual.result c.from_residual.ensures.1 in
+    let a = heard_answer h.state h.uid id line (length out) room _ c.parse.ensures (Err c.in_err-reply.field-0.0) c.in_err-reply.ensures.answer in
     let n = heard_next h.state h.uid id line (length out) room _ c.parse.ensures in
     let answer = p.1 ∙ ap Err p.2 ∙ ap counted a in
     let after = c.step.ensures.after ∙ ap (moved h) n in
     let buffer = ap (λ (x : Result (List ℕ) Refusal). filled x out) a in
-    record { answer = answer; after = after; buffer = buffer; grows = line_grows h c.step.new.self id line out out c.from-residual.result answer after buffer }
+    record { answer = answer; after = after; buffer = buffer; grows = line_grows h c.step.new.self id line out out c.from_residual.result answer after buffer }
 
 pub returns : goal.returns
 returns c =
@@ -42,7 +42,7 @@ returns c =
     let line : List ℕ = c.args.line.now in
     let out : List ℕ = c.args.out.now in
     let room = c.if-out-lt-ROOM.false in
-    let a = heard_answer h.state h.uid id line (length out) room _ c.parse.ensures (Ok c.in-ok-reply.reply) c.in-ok-reply.ensures.answer in
+    let a = heard_answer h.state h.uid id line (length out) room _ c.parse.ensures (Ok c.in_ok-reply.reply) c.in_ok-reply.ensures.answer in
     let n = heard_next h.state h.uid id line (length out) room _ c.parse.ensures in
     let answer = ap Ok c.write.ensures.count ∙ ap counted a in
     let after = c.step.ensures.after ∙ ap (moved h) n in

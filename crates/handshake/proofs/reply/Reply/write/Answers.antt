@@ -1,7 +1,6 @@
-use Rattle.std.proofs.Common.{◌≡◌, ℕ, ◌+◌, ◌-◌, ◌*◌, ◌≤◌, List, [], ◌∷◌, ◌++◌, length, codes, sym, refl, ap, ◌∙◌, zero-add, arith, length-append}
+use Rattle.std.proofs.Common.{◌≡◌, ℕ, ◌+◌, List, ◌++◌, length, codes, ap, zero-add, arith, length-append}
 use Rattle.hex_digits.specs.Hex.{pairs}
 use Rattle.hex_digits.proofs.Pairs.{length_pairs}
-use Rattle.area.specs.Writes.{written}
 use Rattle.area.proofs.Joins.{written_twice}
 use Rattle.handshake.specs.Texts.{wording, onto, line_end}
 use Rattle.handshake.proofs.reply.Reply.write.Goals as goal
@@ -19,7 +18,7 @@ returns-in-Okay c =
     let one = written_twice out (codes "OK ") (pairs id) 0 (omega arith) in
     let two = written_twice out front line_end 0 (omega arith) in
     let first : c.put-at.result ≡ 0 + length (codes "OK ") = omega arith in
-    let second : c.put-hex-at.result ≡ 0 + length front = omega (arith, many, c.told-id) in
+    let second : c.put_hex-at.result ≡ 0 + length front = omega (arith, many, c.told-id) in
     let none = zero-add (length text) in
     record { count = omega (arith, ap length said); after = cc }
 

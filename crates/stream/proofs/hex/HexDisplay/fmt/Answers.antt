@@ -13,8 +13,8 @@ loop-b-preserved g c plain =
     let xs = c.args.self.now.0.now in
     let i = c.loop-b.b-index in
     let p = c.loop-b.invariant plain in
-    let q = c.write-char.ensures.writes p.plain (ap is_ok c.in-ok-write-char.was) in
-    let r = c.write-char-in-loop-b.ensures.writes q.plain (ap is_ok c.in-ok-write-char-2.was) in
+    let q = c.write_char.ensures.writes p.plain (ap is_ok c.in_ok-write_char.was) in
+    let r = c.write_char-in-loop-b.ensures.writes q.plain (ap is_ok c.in_ok-write_char-2.was) in
     let high = c.from.ensures ∙ ap (λ (r : List ℕ). get_or r 0 0) c.pair.ensures.digits in
     let low = c.from-in-loop-b.ensures ∙ ap (λ (r : List ℕ). get_or r 1 0) c.pair.ensures.digits in
     let e : (pairs (take i xs) ++ encode c.from.result) ++ encode c.from-in-loop-b.result ≡ pairs (take (i + 1) xs) =
@@ -26,5 +26,5 @@ loop-b-preserved g c plain =
 pub returns-clause-writes : goal.returns-clause-writes
 returns-clause-writes g c plain _ =
     let xs = c.args.self.now.0.now in
-    let e = ap pairs (take_all c.loop-b.b-index xs (omega arith)) ∙ sym (hex_some xs (omega (arith, eqb-false (length xs) 0 (sym c.is-empty.ensures ∙ c.if-is-empty.false)))) in
+    let e = ap pairs (take_all c.loop-b.b-index xs (omega arith)) ∙ sym (hex_some xs (omega (arith, eqb-false (length xs) 0 (sym c.is_empty.ensures ∙ c.if-is_empty.false)))) in
     has_written_of_eq _ _ _ _ _ e (c.loop-b.invariant plain)

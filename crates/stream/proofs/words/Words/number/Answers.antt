@@ -3,8 +3,8 @@ use Rattle.std.proofs.lemmas.Fmt.{decimal_injective}
 use Rattle.stream.proofs.Exits.{bad_number}
 use Rattle.stream.proofs.words.Words.number.Goals as goal
 
-pub returns-in-default-number : goal.returns-in-default-number
-returns-in-default-number c = (
+pub returns-in_default-number : goal.returns-in_default-number
+returns-in_default-number c = (
   bad_number,
   λ n ws small e.
       let f = c.in-Some.ensures in

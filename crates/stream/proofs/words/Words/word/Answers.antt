@@ -7,11 +7,11 @@ use Rattle.stream.proofs.words.Words.word.Goals.{then-end-text, else-end-text}
 
 pub returns : goal.returns
 returns c =
-    let text = c.in-ok-text.text.now in
+    let text = c.in_ok-text.text.now in
     let end = c.find-end.result in
     let f = c.find-end.ensures in
     let z : end - 0 ≡ end = omega arith in
-    let was = ap cut_of c.in-ok-text.was in
+    let was = ap cut_of c.in_ok-text.was in
     elim c.if-end-text.branch [
       | then-end-text w ↦
           let e = cut_at text end w.if-end-text.true f.before (f.found w.if-end-text.true) in
