@@ -1,4 +1,4 @@
-use Rattle.std.proofs.Common.{◌≡◌, ℕ, ◌+◌, ◌<◌, List, length, take, Some, Ok, Err, Result, sym, refl, ap, ◌∙◌, subst, inl, inr, arith, length-take}
+use Rattle.std.proofs.Common.{◌≡◌, ℕ, ◌+◌, ◌<◌, List, length, take, Ok, Err, Result, refl, subst, inl, inr, arith, length-take}
 use Rattle.std.proofs.lemmas.Result.{err_from_is_err_and}
 use Rattle.signature.specs.declared.codes.Basic.TheVariants as basics
 use Rattle.items.specs.declared.fault.Flaw.{Flaw}
@@ -7,7 +7,7 @@ use Rattle.items.specs.Items.{Item}
 use Rattle.items.proofs.Once.{never}
 use Rattle.fields.specs.declared.Fields.{Fields}
 use Rattle.fields.specs.declared.known.Field.TheVariants.{Signature}
-use Rattle.fields.specs.Headers.{place_of, Header}
+use Rattle.fields.specs.Headers.{Header}
 use Rattle.fields.proofs.Kept.{header_holds}
 use Rattle.message.specs.Messages.{placed}
 use Rattle.message.proofs.reading.behind.Goals as goal
@@ -22,7 +22,7 @@ well part x (Ok y) e = cc
 well part x (Err f) e = cc
 
 pub contents-requires : goal.contents-requires
-contents-requires g c κs p e =
+contents-requires g c p e =
     let o = g.O.ByteOrder.ordered in
     let b = c.args.bytes.now in
     let s = c.in_ok-fields.fields in
