@@ -1,6 +1,6 @@
 -- The pieces that basic values are made of: padding, numbers, and bytes with a zero behind them.
-use Rattle.std.proofs.Common.{◌≡◌, ℕ, zero, ◌+◌, ◌-◌, ◌^◌, ◌<◌, ◌≤◌, List, [], ◌∷◌, ◌++◌, length, get_or, take, drop, replicate, sym, ap, ◌∙◌, subst, pow-suc, arith}
-use Rattle.std.specs.List.{AllByRecursion as All}
+use Rattle.std.proofs.Common.{◌≡◌, ℕ, ◌+◌, ◌-◌, ◌^◌, ◌<◌, ◌≤◌, List, [], ◌∷◌, ◌++◌, length, get_or, take, drop, replicate, sym, ap, ◌∙◌, subst, pow-suc, arith}
+use Rattle.std.specs.List.{AllByRecursion}
 use Rattle.std.proofs.lemmas.List.{length-take-le, length-drop, length-append, length-replicate}
 use Rattle.std.proofs.ByRecursion.{All-take, All-drop}
 use Rattle.std.proofs.lemmas.Bool.Decides.{nat_tests}
@@ -15,7 +15,7 @@ use Rattle.encoding.proofs.Spans.{there, long, alone, reads, from_reads, join, f
 pub place_above : (a : Alignment) (p : ℕ) → p ≤ place a p
 place_above a p = let n = step a in grind (arith, nat_tests)
 
-number_under : (xs : List ℕ) → All Byte xs → number xs < 256 ^ length xs
+number_under : (xs : List ℕ) → AllByRecursion Byte xs → number xs < 256 ^ length xs
 number_under [] h = omega arith
 number_under (x ∷ xs) h =
     let s = pow-suc 256 (length xs) in
@@ -81,8 +81,8 @@ module _ (area : List ℕ) where
         let l : length (ordered (bytes_of n x)) ≡ n = laws.size (bytes_of n x) ∙ length_bytes_of n x in
         ap (λ (m : ℕ). number (ordered (take m (drop p area)))) (sym l) ∙ ap (λ (ys : List ℕ). number (ordered ys)) (alone area k) ∙ ap number (laws.twice (bytes_of n x)) ∙ written_read n x h
 
-    module _ (all : All Byte area) where
-      part_bytes : (p n : ℕ) → All Byte (ordered (take n (drop p area)))
+    module _ (all : AllByRecursion Byte area) where
+      part_bytes : (p n : ℕ) → AllByRecursion Byte (ordered (take n (drop p area)))
       part_bytes p n = laws.bytes (take n (drop p area)) (All-take Byte n (drop p area) (All-drop Byte p area all))
 
       part_size : (p n : ℕ) → p + n ≤ length area → length (ordered (take n (drop p area))) ≡ n

@@ -1,6 +1,6 @@
 -- What the items of a message tell where all is well.
 use Rattle.std.proofs.Common.{◌≡◌, ℕ, zero, suc, ◌+◌, ◌-◌, ◌≤◌, Bool, true, false, cond, ◌⊎◌, List, length, replicate, Ok, Err, Result, sym, refl, ◌∙◌, subst, inl, inr, arith}
-use Rattle.std.specs.List.{AllByRecursion as All}
+use Rattle.std.specs.List.{AllByRecursion}
 use Rattle.order.specs.Numbers.{Byte}
 use Rattle.text.specs.Texts as texts
 use Rattle.text.specs.Grammar as names
@@ -63,7 +63,7 @@ module _ (area : List ℕ) where
       let few = shallow_tells around p (codes_end area p) q valid.1 in
       (valid.0, ending few.1 (codes_there area p inside.0 last.0), few.0)
 
-  module _ (ordered : List ℕ → List ℕ) (laws : IsByteOrder ordered) (all : All Byte area) where
+  module _ (ordered : List ℕ → List ℕ) (laws : IsByteOrder ordered) (all : AllByRecursion Byte area) where
     fixed_tells : (n around p q : ℕ) → Fixed area around n p (Ok q) → (x : Number n) × Lies area p q (digits ordered n x.value) × (around ≤ 64)
     fixed_tells n around p q h =
         let inside = passed q h in

@@ -2,7 +2,7 @@
 use Rattle.std.proofs.Common.{◌≡◌, ℕ, ◌+◌, ◌≤◌, List, [], ◌++◌, length, take, Ok, Err, Result, sym, subst, arith}
 use Rattle.std.proofs.lemmas.List.{length-take}
 use Rattle.std.proofs.ByRecursion.{All-take}
-use Rattle.std.specs.List.{AllByRecursion as All}
+use Rattle.std.specs.List.{AllByRecursion}
 use Rattle.order.specs.Numbers.{Byte}
 use Rattle.signature.specs.declared.codes.Basic.{Basic}
 use Rattle.signature.specs.Codes.{align}
@@ -13,11 +13,11 @@ use Rattle.items.specs.Items.{Leaf, Typed, Opened, Headed, codes_at}
 use Rattle.items.proofs.Once.{opened_moves, headed_moves}
 use Rattle.values.specs.Values.{lies_as, Value, leaf, struct_bad, struct_is, array_bad, array_is, variant_bad, variant_is, Values, ends, goes, fails, Elements, no_more, one_more, bad_one}
 use Rattle.encoding.specs.Data.{Datum, plain, tuple, list, tagged, Data, nil, cons, Items, empty, push, Shallow, ShallowAll, ShallowItems}
-use Rattle.encoding.specs.Encodings.{Lies, IsByteOrder, place, codes, encode, encode_all, encode_items}
+use Rattle.encoding.specs.Encodings.{Lies, IsByteOrder, codes, encode, encode_all, encode_items}
 use Rattle.encoding.proofs.Spans.{long, nothing, join, within, without}
 use Rattle.encoding.proofs.Reading.{opened_tells, coded_tells, leaf_tells, headed_tells}
 
-module _ (ordered : List ℕ → List ℕ) (laws : IsByteOrder ordered) (bytes : List ℕ) (all : All Byte bytes) where
+module _ (ordered : List ℕ → List ℕ) (laws : IsByteOrder ordered) (bytes : List ℕ) (all : AllByRecursion Byte bytes) where
   -- where all is well, there is a value, and it lies there
   abbrev One : ℕ → ℕ → Tree → ℕ → Result ℕ Flaw → Type 0
   One around end t p (Ok q) = (d : Datum t) × Shallow around d × Lies bytes p q (encode ordered d p) × (q ≤ end)

@@ -1,6 +1,6 @@
 -- The bytes of values, from a place of a message on.
 use Rattle.std.specs.Prelude.{◌≡◌, ℕ, ◌+◌, ◌-◌, ◌^◌, ◌<◌, ◌≤◌, cond, ◌↔◌, List, [], ◌∷◌, ◌++◌, length, take, drop, replicate, Ok}
-use Rattle.std.specs.List.{AllByRecursion as All}
+use Rattle.std.specs.List.{AllByRecursion}
 use Rattle.order.specs.Numbers.{Byte, bytes_of}
 use Rattle.signature.specs.declared.codes.Alignment.{Alignment}
 use Rattle.signature.specs.declared.codes.Alignment.TheVariants.{Four, Eight}
@@ -98,12 +98,12 @@ pub record Encoded (ordered : List ℕ → List ℕ) (bytes : List ℕ) (around 
 pub record IsByteOrder (ordered : List ℕ → List ℕ) : Type 0 where
   pub twice : (xs : List ℕ) → ordered (ordered xs) ≡ xs
   pub size : (xs : List ℕ) → length (ordered xs) ≡ length xs
-  pub bytes : (xs : List ℕ) → All Byte xs → All Byte (ordered xs)
+  pub bytes : (xs : List ℕ) → AllByRecursion Byte xs → AllByRecursion Byte (ordered xs)
 
 -- From p on, values of the types are read, up to q, exactly if the bytes up to q are the encoding of some.
 abbrev pub Law : Type 0
 Law =
-    (ordered : List ℕ → List ℕ) → IsByteOrder ordered → (bytes : List ℕ) → All Byte bytes → length bytes < 2 ^ 32
+    (ordered : List ℕ → List ℕ) → IsByteOrder ordered → (bytes : List ℕ) → AllByRecursion Byte bytes → length bytes < 2 ^ 32
     → (around end : ℕ) (ts : Trees) (p q : ℕ) → p ≤ end → end ≤ length bytes
     → Values ordered bytes around end ts p (Ok q) ↔ Encoded ordered bytes around end ts p q
 

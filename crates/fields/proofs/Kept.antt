@@ -1,19 +1,18 @@
 -- The values of the fields that were read lie well.
-use Rattle.std.proofs.Common.{◌≡◌, ℕ, ◌+◌, ◌<◌, ◌≤◌, cond, eqb, ◌≢◌, ◌⊎◌, List, [], ◌∷◌, length, get_or, take, set, IfOk, Some, None, Ok, Err, Option, Result, sym, refl, ap, ◌∙◌, subst, inl, inr, arith, get_or-set_other, get_or-set_same}
+use Rattle.std.proofs.Common.{◌≡◌, ℕ, ◌+◌, ◌<◌, ◌≤◌, cond, eqb, ◌≢◌, ◌⊎◌, List, [], length, get_or, take, set, IfOk, Some, None, Ok, Option, Result, sym, refl, ap, ◌∙◌, subst, inl, inr, arith, get_or-set_other, get_or-set_same}
 use Rattle.std.proofs.lemmas.List.{set_past}
-use Rattle.signature.specs.declared.codes.Basic.{Basic}
-use Rattle.signature.specs.Codes.{basic_align, step}
+use Rattle.signature.specs.Codes.{basic_align}
 use Rattle.signature.specs.Trees.{Tree, basic, spell}
 use Rattle.signature.proofs.Spellings.{once}
 use Rattle.items.specs.declared.fault.Flaw.{Flaw}
-use Rattle.items.specs.Items.{aligned, Pad, Item, Leaf, codes_at}
+use Rattle.items.specs.Items.{Item, Leaf, codes_at}
 use Rattle.items.proofs.Once.{ok_inj, never}
 use Rattle.values.specs.Values.{Value}
 use Rattle.fields.specs.declared.known.Field.{Field}
 use Rattle.fields.specs.declared.known.Field.TheVariants.{Path, Interface, Member, ErrorName, ReplySerial, Destination, Sender, Signature}
 use Rattle.fields.specs.declared.Fields.{Fields}
 use Rattle.fields.specs.Known.{known, field_type, index_of}
-use Rattle.fields.specs.Headers.{place_of, none_yet, Own, start, noted, Proper, Owned, Kinded, Fitting, Valued, AfterCode, AfterPadding, OneField, AllFields, no_more, bad_one, one_more, Padded, Header, Held, Holds}
+use Rattle.fields.specs.Headers.{place_of, none_yet, Own, start, noted, Proper, Fitting, Valued, AfterCode, AfterPadding, OneField, AllFields, no_more, bad_one, one_more, Padded, Header, Held, Holds}
 use Rattle.fields.proofs.Parts.{kinded_tells, pad_is, leaf_of}
 
 -- a field is known by its place

@@ -1,17 +1,16 @@
 -- Fields come to one result.
-use Rattle.std.proofs.Common.{◌≡◌, ℕ, ◌+◌, ◌<◌, List, [], get_or, take, Ok, Err, Result, sym, refl, ap, ◌∙◌, subst, inl, inr, arith}
+use Rattle.std.proofs.Common.{◌≡◌, ℕ, ◌+◌, List, [], get_or, take, Ok, Err, Result, sym, refl, ap, ◌∙◌, subst, arith}
 use Rattle.signature.specs.declared.codes.Alignment.TheVariants.{Eight}
-use Rattle.signature.specs.Trees.{Tree, spell}
+use Rattle.signature.specs.Trees.{Tree}
 use Rattle.signature.proofs.Spellings.{once}
 use Rattle.items.specs.declared.fault.Flaw.{Flaw}
 use Rattle.items.specs.Faults.{Then}
-use Rattle.items.specs.Items.{codes_at}
 use Rattle.items.proofs.Once.{One, is_one, provided_one, then_one, ok_inj, never, pad_one, typed_one}
 use Rattle.values.specs.Values.{Value}
 use Rattle.values.proofs.Once.{value_one}
 use Rattle.fields.specs.declared.Fields.{Fields}
 use Rattle.fields.specs.Known.{known}
-use Rattle.fields.specs.Headers.{noted, none_yet, Owned, Kinded, Coded, Fitting, Valued, AfterCode, AfterPadding, OneField, AllFields, no_more, bad_one, one_more, Padded, Header}
+use Rattle.fields.specs.Headers.{noted, Kinded, Fitting, Valued, OneField, AllFields, no_more, bad_one, one_more, Header}
 
 module _ (ordered : List ℕ → List ℕ) (bytes : List ℕ) (end : ℕ) where
   kinded_one : (c p : ℕ) → One (Kinded (take end bytes) c p)

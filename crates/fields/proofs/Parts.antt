@@ -1,26 +1,25 @@
 -- What the items of a field tell.
-use Rattle.std.proofs.Common.{◌≡◌, ℕ, ◌+◌, ◌-◌, ◌<◌, ◌≤◌, List, [], ◌∷◌, length, get_or, take, drop, Some, None, Ok, Err, Option, Result, sym, refl, ap, ◌∙◌, subst, inl, inr, arith}
+use Rattle.std.proofs.Common.{◌≡◌, ℕ, ◌+◌, ◌-◌, ◌<◌, ◌≤◌, List, [], length, get_or, take, drop, Some, None, Ok, Option, Result, sym, refl, ap, ◌∙◌, subst, inl, inr, arith}
 use Rattle.std.proofs.lemmas.List.{drop-take, take-take, length-take-le}
 use Rattle.signature.specs.declared.codes.Alignment.{Alignment}
 use Rattle.signature.specs.declared.codes.Alignment.TheVariants.{Four, Eight}
 use Rattle.signature.specs.declared.codes.Basic.{Basic}
 use Rattle.signature.specs.declared.codes.Basic.TheVariants as basics
-use Rattle.signature.specs.Codes.{code, basic_align, step}
-use Rattle.signature.specs.Trees.{Tree, basic, none, more, spell, Single, Signature}
+use Rattle.signature.specs.Codes.{step}
+use Rattle.signature.specs.Trees.{Tree, basic, none, more, Single, Signature}
 use Rattle.signature.proofs.Spellings.{once}
 use Rattle.signature.proofs.Fronts.{single_signature}
 use Rattle.items.specs.declared.fault.Flaw.{Flaw}
 use Rattle.items.specs.declared.Span.{Span}
-use Rattle.items.specs.Faults.{flaw, Is, Provided, Then}
 use Rattle.items.specs.Items.{aligned, Pad, Typed, Item, Leaf, codes_at, codes_end}
 use Rattle.items.proofs.Once.{ok_inj, never, typed_moves, pad_moves}
-use Rattle.values.specs.Values.{Value, leaf, Values, within, Spelled, OfTypes, Read}
+use Rattle.values.specs.Values.{Value, leaf, within, Spelled, Read}
 use Rattle.values.proofs.Moves.{one_value, value_onward}
 use Rattle.fields.specs.declared.known.Field.{Field}
 use Rattle.fields.specs.declared.known.Field.TheVariants.{Path, Interface, Member, ErrorName, ReplySerial, Destination, Sender, Signature as Types}
 use Rattle.fields.specs.declared.Fields.{Fields}
 use Rattle.fields.specs.Known.{known, field_type}
-use Rattle.fields.specs.Headers.{Own, start, noted, Owned, Kinded, Fitting, Valued, AfterCode, AfterPadding, OneField, Coded}
+use Rattle.fields.specs.Headers.{Own, start, noted, Owned, Kinded, Fitting, Valued, AfterCode, AfterPadding, OneField}
 use Rattle.fields.specs.Words.{Wordy}
 
 -- the codes of a type, as a part of the area

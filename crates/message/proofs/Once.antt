@@ -1,15 +1,13 @@
 -- A message comes to one result.
-use Rattle.std.proofs.Common.{◌≡◌, ℕ, ◌+◌, List, length, Ok, Err, Result, sym, refl, ap, ◌∙◌, subst, inl, inr}
+use Rattle.std.proofs.Common.{ℕ, ◌+◌, List, length, Result, sym, ap, ◌∙◌, inl, inr}
 use Rattle.items.specs.declared.Span.{Span}
 use Rattle.items.specs.declared.fault.Flaw.{Flaw}
 use Rattle.items.specs.declared.fault.Part.{Part}
 use Rattle.items.proofs.Once.{One, is_one, provided_one, then_one}
-use Rattle.values.specs.Values.{Spelled, OfTypes, Read}
+use Rattle.values.specs.Values.{Read}
 use Rattle.values.proofs.Once.{values_one}
-use Rattle.frame.specs.declared.Frame.{Frame}
-use Rattle.frame.specs.Frames.{Framed, frame_at}
+use Rattle.frame.specs.Frames.{frame_at}
 use Rattle.frame.specs.Kinds.{ordered}
-use Rattle.fields.specs.declared.Fields.{Fields}
 use Rattle.fields.proofs.Once.{header_once}
 use Rattle.message.specs.Messages.{placed, In, Decided}
 

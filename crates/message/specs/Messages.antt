@@ -1,6 +1,6 @@
 -- What reading a message comes to: what it holds, or its one fault.
 use Rattle.std.specs.Prelude.{◌≡◌, ℕ, ◌+◌, List, [], ◌∷◌, length, Some, None, Ok, Err, Option, Result, slice_index}
-use Rattle.std.specs.List.{AllByRecursion as All}
+use Rattle.std.specs.List.{AllByRecursion}
 use Rattle.items.specs.declared.Span.{Span}
 use Rattle.items.specs.declared.fault.Cause.TheVariants.{MissingField, LeftOver}
 use Rattle.items.specs.declared.fault.Fault.{Fault}
@@ -45,7 +45,7 @@ abbrev pub Has : List (Option ℕ) → Field → Type 0
 Has places f = place_of places f ≡ None → ⊥
 
 abbrev pub Complete : Kind → List (Option ℕ) → Type 0
-Complete kind places = All (Has places) (needed kind)
+Complete kind places = AllByRecursion (Has places) (needed kind)
 
 -- after the values, which end at q: no needed field is missing, and nothing is left over
 abbrev pub Whole : Frame → Fields → ℕ → Result ℕ Flaw → Type 0

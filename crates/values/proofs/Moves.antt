@@ -1,10 +1,9 @@
 -- Values end behind where they begin.
-use Rattle.std.proofs.Common.{ℕ, ◌+◌, ◌<◌, ◌≤◌, List, take, Ok, Err, Result, arith}
+use Rattle.std.proofs.Common.{ℕ, ◌≤◌, List, take, Ok, Err, Result, arith}
 use Rattle.signature.specs.declared.codes.Basic.{Basic}
 use Rattle.signature.specs.Codes.{align}
 use Rattle.signature.specs.Trees.{Tree, Element, Trees, none, more, head_of_element}
 use Rattle.items.specs.declared.fault.Flaw.{Flaw}
-use Rattle.items.specs.declared.Span.{Span}
 use Rattle.items.specs.Items.{Leaf}
 use Rattle.items.proofs.Once.{leaf_moves, typed_moves, opened_moves, headed_moves}
 use Rattle.values.specs.Values.{Value, leaf, struct_bad, struct_is, array_bad, array_is, variant_bad, variant_is, Values, ends, goes, fails, Elements, no_more, one_more, bad_one}

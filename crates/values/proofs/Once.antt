@@ -1,13 +1,12 @@
 -- Values come to one result: the relations of the values are functions.
-use Rattle.std.proofs.Common.{◌≡◌, ℕ, ◌+◌, ◌<◌, ◌≤◌, List, [], take, Ok, Err, Result, sym, refl, ap, ◌∙◌, subst, arith}
+use Rattle.std.proofs.Common.{◌≡◌, ℕ, ◌+◌, List, [], take, Ok, Err, Result, sym, refl, ap, ◌∙◌, subst, arith}
 use Rattle.signature.specs.Codes.{align}
-use Rattle.signature.specs.Trees.{Tree, Element, Trees, none, more, spell, head_of_element}
+use Rattle.signature.specs.Trees.{Tree, Element, Trees, more, head_of_element}
 use Rattle.signature.proofs.Spellings.{once}
 use Rattle.items.specs.declared.fault.Flaw.{Flaw}
 use Rattle.items.specs.declared.Span.{Span}
-use Rattle.items.specs.Items.{codes_at}
 use Rattle.items.proofs.Once.{ok_inj, never, leaf_one, typed_one, opened_one, headed_one}
-use Rattle.values.specs.Values.{lies_as, Value, leaf, struct_bad, struct_is, array_bad, array_is, variant_bad, variant_is, Values, ends, goes, fails, Elements, no_more, one_more, bad_one, Decided}
+use Rattle.values.specs.Values.{Value, leaf, struct_bad, struct_is, array_bad, array_is, variant_bad, variant_is, Values, ends, goes, fails, Elements, no_more, one_more, bad_one, Decided}
 
 module _ (ordered : List ℕ → List ℕ) (bytes : List ℕ) where
   abbrev area : ℕ → List ℕ

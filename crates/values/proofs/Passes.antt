@@ -1,9 +1,9 @@
 -- Each step past a value keeps what a walk owes.
-use Rattle.std.proofs.Common.{◌≡◌, ℕ, ◌+◌, ◌-◌, ◌<◌, ◌≤◌, Bool, true, false, ◌⊎◌, List, [], ◌∷◌, length, get_or, drop, Ok, Err, Result, sym, refl, ap, ◌∙◌, subst, inl, inr, ⊎_elim, arith, length-drop}
+use Rattle.std.proofs.Common.{◌≡◌, ℕ, ◌+◌, ◌-◌, ◌<◌, ◌≤◌, true, false, ◌⊎◌, List, ◌∷◌, length, get_or, drop, Ok, Result, sym, refl, ap, ◌∙◌, subst, inl, inr, ⊎_elim, arith, length-drop}
 use mathlib.Core.List.{head-eq_of_cons-eq, tail-eq_of_cons-eq}
 use Rattle.std.proofs.lemmas.Bool.{false≢true}
 use Rattle.std.proofs.lemmas.List.{drop_more}
-use Rattle.signature.specs.Trees.{Tree, Element, single, Trees, none, more, spell, spell_element, spell_all}
+use Rattle.signature.specs.Trees.{Tree, Element, single, Trees, none, more, spell, spell_all}
 use Rattle.signature.proofs.Spellings.{no_close, no_end, all_longer}
 use Rattle.items.specs.declared.fault.Flaw.{Flaw}
 use Rattle.items.specs.Faults.{Then}

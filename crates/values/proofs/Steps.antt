@@ -1,25 +1,23 @@
 -- Each step of a walk keeps what it owes.
-use Rattle.std.proofs.Common.{◌≡◌, ℕ, zero, suc, ◌+◌, ◌-◌, ◌<◌, ◌≤◌, Bool, true, false, ◌⊎◌, List, [], ◌∷◌, ◌++◌, length, get_or, take, drop, set, Ok, Err, Result, sym, refl, ap, ◌∙◌, subst, inl, inr, ⊎_elim, arith, length-drop, take-append-drop, drop-drop}
-use mathlib.Core.List.{head-eq_of_cons-eq, tail-eq_of_cons-eq}
+use Rattle.std.proofs.Common.{◌≡◌, ℕ, ◌+◌, ◌<◌, ◌≤◌, true, false, ◌⊎◌, List, [], ◌∷◌, length, get_or, take, drop, set, Ok, Err, Result, sym, refl, ap, ◌∙◌, subst, inl, inr, ⊎_elim, arith}
 use Rattle.std.proofs.lemmas.Bool.{false≢true}
-use Rattle.std.proofs.lemmas.List.{drop_more}
 use Rattle.signature.specs.declared.codes.Basic.{Basic}
 use Rattle.signature.specs.declared.codes.Alignment.{Alignment}
 use Rattle.signature.specs.declared.codes.Head.{Head}
 use Rattle.signature.specs.declared.codes.Head.TheVariants as head
 use Rattle.signature.specs.Codes.{head_code, align}
-use Rattle.signature.specs.Trees.{Tree, basic, variant, array, struct, Element, single, entry, Trees, none, more, spell, spell_element, spell_all, head_of_element, Single}
-use Rattle.signature.proofs.Spellings.{no_close, no_end, all_longer, appended, element_begins}
+use Rattle.signature.specs.Trees.{Tree, basic, variant, array, struct, Element, single, spell, spell_element, spell_all, head_of_element, Single}
+use Rattle.signature.proofs.Spellings.{element_begins}
 use Rattle.items.specs.declared.fault.Flaw.{Flaw}
 use Rattle.items.specs.declared.Span.{Span}
 use Rattle.items.specs.Faults.{Then}
-use Rattle.items.specs.Items.{Leaf, Typed, Opened, Headed, codes_at, codes_end}
+use Rattle.items.specs.Items.{Leaf, Typed, Opened, Headed, codes_at}
 use Rattle.values.specs.declared.walk.Frame.{Frame}
 use Rattle.values.specs.declared.walk.Frame.TheVariants.{Struct, Array, Variant}
 use Rattle.values.specs.declared.walk.Walk.{Walk}
-use Rattle.values.specs.Values.{lies_as, Value, leaf, struct_bad, struct_is, array_bad, array_is, variant_bad, variant_is, Values, ends, goes, fails, Elements, no_more, one_more, bad_one}
-use Rattle.values.specs.Walks.{Around, top, in_struct, in_array, in_variant, depth_of, limit, Owed, at_value, past_value, Rest, Comes, Stacked, Of, Went}
-use Rattle.values.proofs.Ties.{at_code, with_code, head_at, at_basic, at_variant, at_array, Opens, at_struct, at_entry, limit_le, depth_is, keeps, written, all_end}
+use Rattle.values.specs.Values.{lies_as, Value, leaf, struct_bad, struct_is, array_bad, array_is, variant_bad, variant_is, Values, goes, fails, Elements, no_more, one_more, bad_one}
+use Rattle.values.specs.Walks.{Around, in_struct, in_array, in_variant, depth_of, limit, Owed, at_value, past_value, Rest, Comes, Stacked, Of, Went}
+use Rattle.values.proofs.Ties.{at_code, with_code, head_at, at_basic, at_variant, at_array, Opens, at_struct, at_entry, limit_le, depth_is, keeps, written}
 
 -- `A` and then `B` and then `C`: what joins `A` to `B` joins the three
 module _ {X Y Z : Type 0} (A : Result X Flaw → Type 0) (B : X → Result Y Flaw → Type 0) (C : Y → Result Z Flaw → Type 0) (D : Result Y Flaw → Type 0)

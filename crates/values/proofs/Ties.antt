@@ -7,9 +7,9 @@ use Rattle.signature.specs.declared.codes.Basic.{Basic}
 use Rattle.signature.specs.declared.codes.Head.{Head}
 use Rattle.signature.specs.declared.codes.Head.TheVariants as head
 use Rattle.signature.specs.Codes.{head_code}
-use Rattle.signature.specs.Trees.{Tree, basic, variant, array, struct, Element, single, entry, Trees, none, more, spell, spell_element, spell_all, head_of_element, Signature}
+use Rattle.signature.specs.Trees.{Tree, basic, variant, array, struct, Element, single, entry, Trees, none, more, spell, spell_element, spell_all, head_of_element}
 use Rattle.signature.proofs.Heads.{head_once, apart}
-use Rattle.signature.proofs.Spellings.{longer, element_longer, all_longer, all_appended, element_begins, once_all}
+use Rattle.signature.proofs.Spellings.{longer, element_longer, all_longer, all_appended, element_begins}
 use Rattle.items.specs.declared.Span.{Span}
 use Rattle.values.specs.declared.walk.Frame.{Frame}
 use Rattle.values.specs.declared.walk.Frame.TheVariants.{Struct, Array, Variant}

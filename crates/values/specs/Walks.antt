@@ -1,6 +1,6 @@
 -- What a walk that stands somewhere in the values still owes.
-use Rattle.std.specs.Prelude.{◌≡◌, ℕ, ◌+◌, ◌-◌, ◌*◌, ◌^◌, ◌<◌, ◌≤◌, Bool, true, false, cond, ◌⊎◌, List, [], ◌∷◌, length, drop, Ok, Err, MatchBool, Result, MatchResult, slice_index_or}
-use Rattle.signature.specs.Trees.{Tree, Element, Trees, spell_element, spell_all}
+use Rattle.std.specs.Prelude.{◌≡◌, ℕ, ◌+◌, ◌-◌, ◌*◌, ◌^◌, ◌≤◌, Bool, true, false, cond, ◌⊎◌, List, ◌∷◌, length, drop, Ok, Err, MatchBool, Result, MatchResult, slice_index_or}
+use Rattle.signature.specs.Trees.{Element, Trees, spell_element, spell_all}
 use Rattle.items.specs.declared.fault.Flaw.{Flaw}
 use Rattle.items.specs.Faults.{Then}
 use Rattle.values.specs.declared.walk.Frame.{Frame}

@@ -1,5 +1,5 @@
-use Rattle.std.proofs.Common.{◌≡◌, ℕ, ◌^◌, ◌<◌, List, length, get_or, Ok, Err, sym, inl, inr, rules}
-use Rattle.std.specs.List.{AllByRecursion as All}
+use Rattle.std.proofs.Common.{ℕ, ◌^◌, ◌<◌, List, length, get_or, Ok, Err, inl, inr, rules}
+use Rattle.std.specs.List.{AllByRecursion}
 use Rattle.order.specs.Numbers.{Byte}
 use Rattle.order.specs.Spreads.{all_from}
 use Rattle.items.specs.declared.Span.{Span}
@@ -12,7 +12,7 @@ use Rattle.encoding.proofs.Laws.{law}
 use Rattle.encoding.proofs.Samples.{samples}
 use Rattle.encoding.proofs.encoded_end.Goals as goal
 
-module _ (ordered : List ℕ → List ℕ) (laws : IsByteOrder ordered) (bytes : List ℕ) (all : All Byte bytes) (short : length bytes < 2 ^ 32) (codes : Span) (at end : ℕ) where
+module _ (ordered : List ℕ → List ℕ) (laws : IsByteOrder ordered) (bytes : List ℕ) (all : AllByRecursion Byte bytes) (short : length bytes < 2 ^ 32) (codes : Span) (at end : ℕ) where
   -- what was read is the encoding of some values
   read_encoded : (q : ℕ) → Read ordered bytes codes at end (Ok q) → EncodedAt ordered bytes codes at end q
   read_encoded q (inl (l, inl (s, h))) = record {

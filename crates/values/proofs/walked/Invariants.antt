@@ -1,4 +1,4 @@
-use Rattle.std.proofs.Common.{◌≡◌, ℕ, List, [], length, Result}
+use Rattle.std.proofs.Common.{◌≡◌, ℕ, [], length, Result}
 use Rattle.signature.specs.Trees.{Trees, spell_all}
 use Rattle.items.specs.declared.fault.Flaw.{Flaw}
 use Rattle.values.specs.Values.{Values, within}

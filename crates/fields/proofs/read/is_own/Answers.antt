@@ -1,4 +1,4 @@
-use Rattle.std.proofs.Common.{◌≡◌, ℕ, List, [], ◌∷◌, length, get_or, Some, None, Option, sym, refl, ap, ◌∙◌, subst, arith}
+use Rattle.std.proofs.Common.{◌≡◌, ℕ, List, [], ◌∷◌, length, get_or, Option, sym, refl, ap, ◌∙◌, subst, arith}
 use Rattle.std.proofs.lemmas.Bool.{eqb-true, eq-eqb}
 use Rattle.signature.specs.Codes.{code as code_of_lem}
 use Rattle.fields.specs.declared.known.Field.{Field}
@@ -14,7 +14,7 @@ pub returns-then-codes-eq1 : goal.returns-then-codes-eq1
 returns-then-codes-eq1 c =
     let xs = c.args.codes.now in
     let own : Option Field → Type 0 = λ o. Own o xs in
-    let code = c.code.ensures ∙ ap code_of_lem c.value-type.ensures in (
+    let code = c.code.ensures ∙ ap code_of_lem c.value_type.ensures in (
       λ e. subst own (sym c.in-Some.is) (only xs c.if-codes-eq1.true ∙ ap (λ (x : ℕ). x ∷ []) (eqb-true _ _ e ∙ code)),
       λ h. eq-eqb _ _ (ap (λ (ys : List ℕ). get_or ys 0 0) (subst own c.in-Some.is h) ∙ sym code),
     )

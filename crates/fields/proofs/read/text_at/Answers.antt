@@ -1,4 +1,4 @@
-use Rattle.std.proofs.Common.{◌≡◌, ℕ, ◌+◌, ◌<◌, ◌≤◌, List, length, take, drop, Some, None, Option, unwrap_or, sym, ap, ◌∙◌, arith, MatchOption}
+use Rattle.std.proofs.Common.{◌≡◌, ℕ, ◌+◌, ◌<◌, ◌≤◌, length, take, drop, Some, None, Option, unwrap_or, ap, ◌∙◌, arith, MatchOption}
 use Rattle.std.proofs.lemmas.List.{take_rest}
 use Rattle.fields.proofs.read.text_at.Goals as goal
 
@@ -11,5 +11,5 @@ pub returns : goal.returns
 returns g c =
     let area = c.args.area.now in
     let at = c.args.at in
-    let size = c.unwrap-or-size.ensures ∙ there c.word.result (length area) at _ c.requires c.word.ensures in
+    let size = c.unwrap_or-size.ensures ∙ there c.word.result (length area) at _ c.requires c.word.ensures in
     simp take_rest at c.front.ensures ∙ ap (λ (n : ℕ). take n (drop (at + 4) area)) size

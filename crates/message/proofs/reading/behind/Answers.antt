@@ -1,4 +1,4 @@
-use Rattle.std.proofs.Common.{◌≡◌, ℕ, ◌+◌, ◌<◌, List, length, take, Some, Ok, Err, Result, sym, refl, ap, ◌∙◌, subst, inl, inr, arith, length-take}
+use Rattle.std.proofs.Common.{◌≡◌, ℕ, ◌+◌, ◌<◌, List, length, take, Ok, Err, Result, refl, subst, inl, inr, arith, length-take}
 use Rattle.std.proofs.lemmas.Result.{err_from_is_err_and}
 use Rattle.signature.specs.declared.codes.Basic.TheVariants as basics
 use Rattle.items.specs.declared.fault.Flaw.{Flaw}
@@ -7,7 +7,7 @@ use Rattle.items.specs.Items.{Item}
 use Rattle.items.proofs.Once.{never}
 use Rattle.fields.specs.declared.Fields.{Fields}
 use Rattle.fields.specs.declared.known.Field.TheVariants.{Signature}
-use Rattle.fields.specs.Headers.{place_of, Header}
+use Rattle.fields.specs.Headers.{Header}
 use Rattle.fields.proofs.Kept.{header_holds}
 use Rattle.message.specs.Messages.{placed}
 use Rattle.message.proofs.reading.behind.Goals as goal
@@ -22,41 +22,41 @@ well part x (Ok y) e = cc
 well part x (Err f) e = cc
 
 pub contents-requires : goal.contents-requires
-contents-requires g c κs p e =
+contents-requires g c p e =
     let o = g.O.ByteOrder.ordered in
     let b = c.args.bytes.now in
-    let s = c.in-ok-fields.fields in
-    let read = well _ s c.read-fields.result c.in-ok-fields.ensures in
-    let header = subst (λ (r : Result Fields Flaw). Header o b (16 + c.args.frame.fields) r) read c.read-fields.ensures in
+    let s = c.in_ok-fields.fields in
+    let read = well _ s c.read_fields.result c.in_ok-fields.ensures in
+    let header = subst (λ (r : Result Fields Flaw). Header o b (16 + c.args.frame.fields) r) read c.read_fields.ensures in
     let held = header_holds o b (16 + c.args.frame.fields) s header Signature p e in
     codes_in o b (16 + c.args.frame.fields) p held.end held.lies
 
-pub returns-in-err-end : goal.returns-in-err-end
-returns-in-err-end g c =
-    let p = err_from_is_err_and c.from-residual-in-err-end.result c.from-residual-in-err-end.ensures.1 in
-    let f = c.in-err-end.field-0.0 in
+pub returns-in_err-end : goal.returns-in_err-end
+returns-in_err-end g c =
+    let p = err_from_is_err_and c.from_residual-in_err-end.result c.from_residual-in_err-end.ensures.1 in
+    let f = c.in_err-end.field-0.0 in
     rw (p.1, p.2)
-    (inl (c.in-ok-fields.fields, (c.read-fields.result, c.read-fields.ensures, c.in-ok-fields.ensures), inr (f, (c.contents.result, c.contents.ensures, c.in-err-end.ensures), refl)))
+    (inl (c.in_ok-fields.fields, (c.read_fields.result, c.read_fields.ensures, c.in_ok-fields.ensures), inr (f, (c.contents.result, c.contents.ensures, c.in_err-end.ensures), refl)))
 
-pub returns-in-err-whole-end : goal.returns-in-err-whole-end
-returns-in-err-whole-end g c =
-    let p = err_from_is_err_and c.from-residual-in-err-whole-end.result c.from-residual-in-err-whole-end.ensures.1 in
-    let f = c.in-err-whole-end.field-0.0 in
+pub returns-in_err-whole_end : goal.returns-in_err-whole_end
+returns-in_err-whole_end g c =
+    let p = err_from_is_err_and c.from_residual-in_err-whole_end.result c.from_residual-in_err-whole_end.ensures.1 in
+    let f = c.in_err-whole_end.field-0.0 in
     rw (p.1, p.2)
     (inl (
-      c.in-ok-fields.fields,
-      (c.read-fields.result, c.read-fields.ensures, c.in-ok-fields.ensures),
-      inl (c.in-ok-end.end, (c.contents.result, c.contents.ensures, c.in-ok-end.ensures), inr (f, (c.whole.result, c.whole.ensures, c.in-err-whole-end.ensures), refl)),
+      c.in_ok-fields.fields,
+      (c.read_fields.result, c.read_fields.ensures, c.in_ok-fields.ensures),
+      inl (c.in_ok-end.end, (c.contents.result, c.contents.ensures, c.in_ok-end.ensures), inr (f, (c.whole.result, c.whole.ensures, c.in_err-whole_end.ensures), refl)),
     ))
 
 pub returns : goal.returns
 returns g c =
     inl (
-      c.in-ok-fields.fields,
-      (c.read-fields.result, c.read-fields.ensures, c.in-ok-fields.ensures),
+      c.in_ok-fields.fields,
+      (c.read_fields.result, c.read_fields.ensures, c.in_ok-fields.ensures),
       inl (
-        c.in-ok-end.end,
-        (c.contents.result, c.contents.ensures, c.in-ok-end.ensures),
-        inl (c.in-ok-whole-end.whole-end, (c.whole.result, c.whole.ensures, c.in-ok-whole-end.ensures), (c.filled.result, c.filled.ensures, c.within-4.ensures)),
+        c.in_ok-end.end,
+        (c.contents.result, c.contents.ensures, c.in_ok-end.ensures),
+        inl (c.in_ok-whole_end.whole_end, (c.whole.result, c.whole.ensures, c.in_ok-whole_end.ensures), (c.filled.result, c.filled.ensures, c.within-4.ensures)),
       ),
     )

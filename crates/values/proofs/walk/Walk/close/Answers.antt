@@ -1,12 +1,5 @@
-use Rattle.std.proofs.Common.{◌≡◌, ℕ, ◌+◌, ◌-◌, ◌^◌, ◌<◌, ◌≤◌, Bool, true, false, List, length, get_or, take, drop, Ok, Err, Result, sym, refl, ap, ◌∙◌, subst, inl, inr, ⊎_elim, arith, rules}
-use Rattle.std.proofs.lemmas.List.{length-take-le}
-use Rattle.std.proofs.lemmas.Result.{err_from_is_err_and}
+use Rattle.std.proofs.Common.{◌≡◌, ◌^◌, ◌<◌, length, sym, arith}
 use Rattle.std.proofs.lemmas.Bool.{false≢true}
-use Rattle.signature.specs.declared.codes.Head.TheVariants as head
-use Rattle.items.specs.declared.fault.Flaw.{Flaw}
-use Rattle.items.specs.declared.Span.{Span}
-use Rattle.values.specs.declared.walk.Frame.{Frame}
-use Rattle.values.specs.declared.walk.Frame.TheVariants.{Struct, Array, Variant}
 use Rattle.values.proofs.Ties.{fall_past}
 use Rattle.values.proofs.Passes.{top_done, top_more}
 use Rattle.values.proofs.walk.Walk.close.Goals as goal
@@ -26,11 +19,11 @@ returns-then-self-gt0 g c = record {
   falls = λ t. c.leave.ensures.falls;
 }
 
-pub returns-then-self-codes-end : goal.returns-then-self-codes-end
-returns-then-self-codes-end g c =
+pub returns-then-self-codes_end : goal.returns-then-self-codes_end
+returns-then-self-codes_end g c =
     let none : c.args.self.now.depth ≡ 0 = omega arith in
     record {
-      goes = λ e o h. top_done g.O.ByteOrder.ordered c.args.bytes.now c.args.codes_end e c.args.self.now c.requires.past none c.if-self-codes-end.true o h;
+      goes = λ e o h. top_done g.O.ByteOrder.ordered c.args.bytes.now c.args.codes_end e c.args.self.now c.requires.past none c.if-self-codes_end.true o h;
       falls = λ t. absurd (false≢true (sym t));
     }
 
@@ -41,6 +34,6 @@ returns g c =
     let none : w.depth ≡ 0 = omega arith in
     let len : length b < 2 ^ 64 = omega arith in
     record {
-      goes = λ e o h. top_more g.O.ByteOrder.ordered b c.args.codes_end e w c.requires.past none c.if-self-codes-end.false c.requires.within o h;
+      goes = λ e o h. top_more g.O.ByteOrder.ordered b c.args.codes_end e w c.requires.past none c.if-self-codes_end.false c.requires.within o h;
       falls = λ t. fall_past (length b) w.at w.depth w.code w.code w.past c.requires.past len;
     }

@@ -1,12 +1,4 @@
-use Rattle.std.proofs.Common.{◌≡◌, ℕ, ◌+◌, ◌-◌, ◌^◌, ◌<◌, ◌≤◌, Bool, true, false, List, length, get_or, take, drop, Ok, Err, Result, sym, refl, ap, ◌∙◌, subst, inl, inr, ⊎_elim, arith, rules}
-use Rattle.std.proofs.lemmas.List.{length-take-le}
-use Rattle.std.proofs.lemmas.Result.{err_from_is_err_and}
-use Rattle.std.proofs.lemmas.Bool.{false≢true}
-use Rattle.signature.specs.declared.codes.Head.TheVariants as head
-use Rattle.items.specs.declared.fault.Flaw.{Flaw}
-use Rattle.items.specs.declared.Span.{Span}
-use Rattle.values.specs.declared.walk.Frame.{Frame}
-use Rattle.values.specs.declared.walk.Frame.TheVariants.{Struct, Array, Variant}
+use Rattle.std.proofs.Common.{◌≡◌, ◌+◌, ◌-◌, ◌^◌, ◌<◌, length, inl, inr, ⊎_elim, arith}
 use Rattle.values.proofs.Ties.{fall_past, fall_pop}
 use Rattle.values.proofs.Passes.{struct_in, struct_closed, struct_goes, array_goes, array_closed, variant_closed}
 use Rattle.values.proofs.walk.Walk.leave.Goals as goal

@@ -1,24 +1,22 @@
-use Rattle.std.proofs.Common.{◌≡◌, ℕ, ◌+◌, ◌-◌, ◌^◌, ◌<◌, ◌≤◌, Bool, true, false, List, length, get_or, take, drop, Ok, Err, Result, sym, refl, ap, ◌∙◌, subst, inl, inr, ⊎_elim, arith, rules}
+use Rattle.std.proofs.Common.{ℕ, ◌+◌, ◌<◌, ◌≤◌, List, length, take, Ok, Err, refl, subst, inl, inr, ⊎_elim, arith, rules}
 use Rattle.std.proofs.lemmas.List.{length-take-le}
 use Rattle.std.proofs.lemmas.Result.{err_from_is_err_and}
 use Rattle.std.proofs.lemmas.Bool.{false≢true}
 use Rattle.signature.specs.declared.codes.Head.TheVariants as head
-use Rattle.items.specs.declared.fault.Flaw.{Flaw}
-use Rattle.items.specs.declared.Span.{Span}
 use Rattle.items.specs.Items.{Opened}
 use Rattle.items.proofs.Once.{opened_moves}
 use Rattle.values.proofs.Ties.{fall_code}
 use Rattle.values.proofs.Steps.{in_bytes, struct_fault, struct_went}
 use Rattle.values.proofs.walk.Walk.structure.Goals as goal
 
-pub returns-in-err-at : goal.returns-in-err-at
-returns-in-err-at g c =
+pub returns-in_err-at : goal.returns-in_err-at
+returns-in_err-at g c =
     let o = g.O.ByteOrder.ordered in
     let w = c.args.self.now in
     let b = c.args.bytes.now in
-    let p = err_from_is_err_and c.from-residual.result c.from-residual.ensures.1 in
-    let f = c.in-err-at.field-0.0 in
-    let z = subst (λ (xs : List ℕ). Opened xs w.depth w.at (Err f)) c.front.ensures c.in-err-at.ensures in
+    let p = err_from_is_err_and c.from_residual.result c.from_residual.ensures.1 in
+    let f = c.in_err-at.field-0.0 in
+    let z = subst (λ (xs : List ℕ). Opened xs w.depth w.at (Err f)) c.front.ensures c.in_err-at.ensures in
     rw (p.1, p.2) (record {
       goes = λ ce e q h. ⊎_elim
           (λ k. struct_fault o b ce e w c.requires.flat head.Struct k (inl refl) q h f z)
@@ -27,8 +25,8 @@ returns-in-err-at g c =
       falls = λ t. absurd (false≢true t);
     })
 
-pub overflow-add-self-2 : goal.overflow-add-self-2
-overflow-add-self-2 g c =
+pub overflow_add-self-2 : goal.overflow_add-self-2
+overflow_add-self-2 g c =
     let s = c.requires.here in
     omega (arith, (in_bytes g.O.ByteOrder.ordered c.args.bytes.now s.codes_end s.end c.args.self.now c.requires.flat s.owed s.of).0)
 
@@ -39,8 +37,8 @@ returns g c =
     let b = c.args.bytes.now in
     let s = c.requires.here in
     let i = in_bytes o b s.codes_end s.end w c.requires.flat s.owed s.of in
-    let q = c.in-ok-at.at in
-    let z = subst (λ (xs : List ℕ). Opened xs w.depth w.at (Ok q)) c.front.ensures c.in-ok-at.ensures in
+    let q = c.in_ok-at.at in
+    let z = subst (λ (xs : List ℕ). Opened xs w.depth w.at (Ok q)) c.front.ensures c.in_ok-at.ensures in
     let size = length-take-le w.end b i.2 in
     let m = opened_moves (take w.end b) w.depth w.at q z in
     let l65 : w.depth < 65 = omega (arith, m.2) in

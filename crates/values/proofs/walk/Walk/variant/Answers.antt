@@ -1,33 +1,30 @@
-use Rattle.std.proofs.Common.{◌≡◌, ℕ, ◌+◌, ◌-◌, ◌^◌, ◌<◌, ◌≤◌, Bool, true, false, List, [], ◌++◌, length, get_or, take, drop, Ok, Err, Result, sym, refl, ap, ◌∙◌, subst, inl, inr, ⊎_elim, arith, take-append-drop, drop-drop, rules}
+use Rattle.std.proofs.Common.{◌≡◌, ℕ, ◌+◌, ◌-◌, ◌^◌, ◌<◌, ◌≤◌, List, [], ◌++◌, length, get_or, take, drop, Ok, Err, ap, ◌∙◌, subst, arith, take-append-drop, rules}
 use Rattle.std.proofs.lemmas.List.{length-take-le, drop-take, take-take}
 use Rattle.std.proofs.lemmas.Result.{err_from_is_err_and}
 use Rattle.std.proofs.lemmas.Bool.{false≢true}
-use Rattle.signature.specs.declared.codes.Head.TheVariants as head
-use Rattle.items.specs.declared.fault.Flaw.{Flaw}
-use Rattle.items.specs.declared.Span.{Span}
 use Rattle.signature.specs.Trees.{spell, Single}
 use Rattle.signature.proofs.Spellings.{appended}
-use Rattle.items.specs.Items.{Typed, codes_at}
+use Rattle.items.specs.Items.{Typed}
 use Rattle.items.proofs.Once.{typed_moves}
 use Rattle.values.proofs.Ties.{fall_at}
 use Rattle.values.proofs.Steps.{in_bytes, variant_fault, variant_went}
 use Rattle.values.proofs.walk.Walk.variant.Goals as goal
 
-pub returns-in-err-at : goal.returns-in-err-at
-returns-in-err-at g c =
+pub returns-in_err-at : goal.returns-in_err-at
+returns-in_err-at g c =
     let o = g.O.ByteOrder.ordered in
     let w = c.args.self.now in
     let b = c.args.bytes.now in
-    let p = err_from_is_err_and c.from-residual.result c.from-residual.ensures.1 in
-    let f = c.in-err-at.field-0.0 in
-    let z = subst (λ (xs : List ℕ). Typed xs w.depth w.at (Err f)) c.front.ensures c.in-err-at.ensures in
+    let p = err_from_is_err_and c.from_residual.result c.from_residual.ensures.1 in
+    let f = c.in_err-at.field-0.0 in
+    let z = subst (λ (xs : List ℕ). Typed xs w.depth w.at (Err f)) c.front.ensures c.in_err-at.ensures in
     rw (p.1, p.2) (record {
       goes = λ ce e q h. variant_fault o b ce e w c.requires.flat c.requires.code q h f z;
       falls = λ t. absurd (false≢true t);
     })
 
-pub overflow-add-self : goal.overflow-add-self
-overflow-add-self g c =
+pub overflow_add-self : goal.overflow_add-self
+overflow_add-self g c =
     let s = c.requires.here in
     omega (arith, (in_bytes g.O.ByteOrder.ordered c.args.bytes.now s.codes_end s.end c.args.self.now c.requires.flat s.owed s.of).0)
 
@@ -49,9 +46,9 @@ returns g c =
     let b = c.args.bytes.now in
     let s = c.requires.here in
     let i = in_bytes o b s.codes_end s.end w c.requires.flat s.owed s.of in
-    let q = c.in-ok-at.at in
+    let q = c.in_ok-at.at in
     let area = take w.end b in
-    let z = subst (λ (xs : List ℕ). Typed xs w.depth w.at (Ok q)) c.front.ensures c.in-ok-at.ensures in
+    let z = subst (λ (xs : List ℕ). Typed xs w.depth w.at (Ok q)) c.front.ensures c.in_ok-at.ensures in
     let size = length-take-le w.end b i.2 in
     let m = typed_moves area w.depth w.at q z in
     let l65 : w.depth < 65 = omega (arith, m.4) in
