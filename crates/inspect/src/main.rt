@@ -12,6 +12,7 @@ use anyhow::anyhow;
 use report::{Report, report_on};
 use std::env;
 use std::io::{BufRead, BufReader};
+use std::process::ExitCode;
 
 const HELP: &str = "usage: inspect < MESSAGES
 
@@ -95,12 +96,13 @@ fn run(rt: &HostRuntime) -> anyhow::Result<()> {
     Ok(())
 }
 
-fn main(rt: HostRuntime) -> anyhow::Result<()> {
+fn main(rt: HostRuntime) -> ExitCode {
     match run(&rt) {
-        Ok(()) => Ok(()),
+        Ok(()) => ExitCode::SUCCESS,
         Err(error) => {
-            eprintln!(rt; "inspect: {error}")?;
-            Err(error)
+            // where standard error fails too, the status alone tells
+            let _told = eprintln!(rt; "inspect: {error}");
+            ExitCode::FAILURE
         }
     }
 }

@@ -8,6 +8,7 @@ use anyhow::anyhow;
 use question::{Question, read};
 use std::env;
 use std::io::{BufRead, BufReader};
+use std::process::ExitCode;
 use verdict::{Verdict, judge};
 
 const HELP: &str = "usage: lint < QUESTIONS
@@ -76,7 +77,7 @@ fn answer_input(rt: &HostRuntime) -> anyhow::Result<Score> {
 
 fn run(rt: &HostRuntime) -> anyhow::Result<()> {
     for word in env::args(rt)?.skip(1) {
-        if word == "--help" {
+        if word.as_str() == "--help" {
             rt.print(HELP)?;
             return Ok(());
         }
@@ -94,12 +95,13 @@ fn run(rt: &HostRuntime) -> anyhow::Result<()> {
     Ok(())
 }
 
-fn main(rt: HostRuntime) -> anyhow::Result<()> {
+fn main(rt: HostRuntime) -> ExitCode {
     match run(&rt) {
-        Ok(()) => Ok(()),
+        Ok(()) => ExitCode::SUCCESS,
         Err(error) => {
-            eprintln!(rt; "lint: {error}")?;
-            Err(error)
+            // where standard error fails too, the status alone tells
+            let _told = eprintln!(rt; "lint: {error}");
+            ExitCode::FAILURE
         }
     }
 }

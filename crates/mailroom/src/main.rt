@@ -12,6 +12,7 @@ use shelf::Shelf;
 use std::alloc::{AllocError, Global};
 use std::env;
 use std::io::{BufRead, BufReader};
+use std::process::ExitCode;
 use steps::{Answers, Outcome, Step, compare};
 
 const HELP: &str = "usage: mailroom < SCRIPT
@@ -229,12 +230,13 @@ fn run(rt: &HostRuntime) -> anyhow::Result<()> {
     Ok(())
 }
 
-fn main(rt: HostRuntime) -> anyhow::Result<()> {
+fn main(rt: HostRuntime) -> ExitCode {
     match run(&rt) {
-        Ok(()) => Ok(()),
+        Ok(()) => ExitCode::SUCCESS,
         Err(error) => {
-            eprintln!(rt; "mailroom: {error}")?;
-            Err(error)
+            // where standard error fails too, the status alone tells
+            let _told = eprintln!(rt; "mailroom: {error}");
+            ExitCode::FAILURE
         }
     }
 }

@@ -8,6 +8,7 @@ use replay::tally::{Count, Tally};
 use session::Session;
 use std::env;
 use std::io::{BufRead, BufReader};
+use std::process::ExitCode;
 
 const HELP: &str = "usage: runner < STREAM
 
@@ -92,12 +93,13 @@ fn run(rt: &HostRuntime) -> anyhow::Result<()> {
     Ok(())
 }
 
-fn main(rt: HostRuntime) -> anyhow::Result<()> {
+fn main(rt: HostRuntime) -> ExitCode {
     match run(&rt) {
-        Ok(()) => Ok(()),
+        Ok(()) => ExitCode::SUCCESS,
         Err(error) => {
-            eprintln!(rt; "runner: {error}")?;
-            Err(error)
+            // where standard error fails too, the status alone tells
+            let _told = eprintln!(rt; "runner: {error}");
+            ExitCode::FAILURE
         }
     }
 }
