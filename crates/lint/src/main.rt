@@ -76,7 +76,7 @@ fn answer_input(rt: &HostRuntime) -> anyhow::Result<Score> {
 
 fn run(rt: &HostRuntime) -> anyhow::Result<()> {
     for word in env::args(rt)?.skip(1) {
-        if word == "--help" {
+        if word.as_str() == "--help" {
             rt.print(HELP)?;
             return Ok(());
         }
