@@ -30,7 +30,7 @@ impl Verdict {
     pub fn note(self) -> &'static str {
         match self {
             Verdict::Named(BusName::Unique) => " (unique)",
-            Verdict::Named(BusName::WellKnown) => " (well_known)",
+            Verdict::Named(BusName::WellKnown) => " (well-known)",
             Verdict::No | Verdict::Yes => "",
         }
     }
