@@ -2,7 +2,6 @@
 use handshake::conversation::converse;
 use handshake::credential::shows;
 use handshake::machine::{Handshake, Refusal};
-use std::process::Abort;
 use std::test::Fail;
 
 const ID: [u8; 16] = [
@@ -10,45 +9,34 @@ const ID: [u8; 16] = [
 ];
 
 // The line is answered so, and the rest of the buffer stays.
-fn is_answered(
-    rt: &impl Abort,
-    handshake: &mut Handshake,
-    line: &[u8],
-    expected: &[u8],
-) -> Result<(), Fail> {
+fn is_answered(handshake: &mut Handshake, line: &[u8], expected: &[u8]) -> Result<(), Fail> {
     let mut out = [7u8; 38];
     let count = handshake.line(&ID, line, &mut out)?;
-    assert!(rt; count < 38);
-    assert_eq!(rt; &out[0..count], expected);
-    assert_eq!(rt; out[37], 7);
-    Ok(())
+    if count < 38 && &out[0..count] == expected && out[37] == 7 {
+        Ok(())
+    } else {
+        Err(Fail::new("it was answered something else"))
+    }
 }
 
 #[test]
 fn a_program_tries_again_and_begins(rt: HostRuntime) -> Result<(), Fail> {
     let mut h = Handshake::new(1000);
-    is_answered(&rt, &mut h, b"AUTH", b"REJECTED EXTERNAL\r\n")?;
+    is_answered(&mut h, b"AUTH", b"REJECTED EXTERNAL\r\n")?;
+    is_answered(&mut h, b"AUTH EXTERNAL 31303031", b"REJECTED EXTERNAL\r\n")?;
     is_answered(
-        &rt,
-        &mut h,
-        b"AUTH EXTERNAL 31303031",
-        b"REJECTED EXTERNAL\r\n",
-    )?;
-    is_answered(
-        &rt,
         &mut h,
         b"AUTH EXTERNAL 31303030",
         b"OK 00112233445566778899aabbccddeeff\r\n",
     )?;
-    is_answered(&rt, &mut h, b"NEGOTIATE_UNIX_FD", b"ERROR\r\n")?;
-    is_answered(&rt, &mut h, b"CANCEL", b"REJECTED EXTERNAL\r\n")?;
+    is_answered(&mut h, b"NEGOTIATE_UNIX_FD", b"ERROR\r\n")?;
+    is_answered(&mut h, b"CANCEL", b"REJECTED EXTERNAL\r\n")?;
     is_answered(
-        &rt,
         &mut h,
         b"AUTH EXTERNAL 31303030",
         b"OK 00112233445566778899aabbccddeeff\r\n",
     )?;
-    is_answered(&rt, &mut h, b"BEGIN", b"")?;
+    is_answered(&mut h, b"BEGIN", b"")?;
     assert!(rt; h.has_begun());
     Ok(())
 }
