@@ -30,7 +30,7 @@ from collections.abc import Iterable, Iterator
 from itertools import combinations
 
 import texts
-from compare_libdbus_texts import longest_row
+from compare_libdbus_texts import LIBRARY, longest_row, print_row
 from made_messages import (
     NAME_KINDS,
     ORDERS,
@@ -73,8 +73,6 @@ from record_inspect import record, small_messages
 from record_lint import deep_type, one_of, some_of, some_type
 from recording import Dice
 from texts import BASIC, DEEPEST, LONGEST, Array, Entry, Single, Struct, Type, complete_types, depth
-
-LIBRARY = "libdbus-1.so.3"
 
 
 # Known differences -----------------------------------------------------------
@@ -764,10 +762,6 @@ def compare_built(library: Library, count: int) -> int:
     print(f"built by the library: {alike + other}, read alike by the model: {alike}")
     print("\n".join(["the last of them, as the model shows it:", *shown_message(held, len(built))]))
     return other
-
-
-def print_row(name: str, cells: list[object]) -> None:
-    print(f"{name:<50}" + "".join(f"{cell:>14}" for cell in cells))
 
 
 def main() -> int:
