@@ -1,13 +1,15 @@
 // What a message holds, as it is shown.
 use crate::failure::Failure;
 use crate::reader::Reader;
-use crate::value::{LEVELS, plain, values, variant};
-use crate::words::{field_name, order_in_words};
-use fields::{Field, Fields, field_of};
-use frame::{Frame, Kind};
+use crate::value::{LEVELS, Shown};
+use crate::words::{InWords, Plain};
+use fields::{Field, Fields};
+use frame::{Frame, Order};
 use message::Layout;
+use order::{Big, ByteOrder, Little};
 use signature::{Alignment, Basic};
 use std::alloc::{AllocError, Global};
+use std::fmt;
 
 // Where the fields begin.
 const START: usize = 16;
@@ -32,29 +34,31 @@ enum Known<'a> {
     Text(&'a [u8]),
 }
 
-fn kind_in_words(heap: Global, kind: Kind) -> Result<String, AllocError> {
-    match kind {
-        Kind::Call => String::from_str(heap, "call"),
-        Kind::Return => String::from_str(heap, "return"),
-        Kind::Error => String::from_str(heap, "error"),
-        Kind::Signal => String::from_str(heap, "signal"),
-        Kind::Other(number) => format!(in heap; "type {number}"),
+impl fmt::Display for Known<'_> {
+    fn fmt<W: fmt::Write>(&self, f: &mut fmt::Formatter<W>) -> fmt::Result {
+        match self {
+            Known::Serial(serial) => write!(f, "{serial}"),
+            Known::Text(bytes) => write!(f, "{}", Plain(bytes)),
+        }
     }
 }
 
 // What the frame says of a message of so many bytes.
 fn framed(heap: Global, frame: Frame, size: usize) -> Result<String, AllocError> {
-    let kind = kind_in_words(heap, frame.kind)?;
     format!(in heap;
-        "{kind}, {}, serial {}, flags {}, {size} bytes",
-        order_in_words(frame.order),
+        "{}, {}, serial {}, flags {}, {size} bytes",
+        InWords(frame.kind),
+        InWords(frame.order),
         frame.serial,
         frame.flags
     )
 }
 
 // The value of a known field, behind its padding.
-fn known_value<'a>(reader: &mut Reader<'a>, field: Field) -> Result<Known<'a>, Failure> {
+fn known_value<'a, O: ByteOrder>(
+    reader: &mut Reader<'a, O>,
+    field: Field,
+) -> Result<Known<'a>, Failure> {
     match field.value_type() {
         Basic::Uint32 => Ok(Known::Serial(reader.read_u32()?)),
         Basic::Signature => Ok(Known::Text(reader.signature()?)),
@@ -62,68 +66,77 @@ fn known_value<'a>(reader: &mut Reader<'a>, field: Field) -> Result<Known<'a>, F
     }
 }
 
-// Shows a known field, whose value begins where the reader stands.
-fn known_field(text: &mut String, mut reader: Reader, field: Field) -> Result<(), Failure> {
-    write!(text, "\n  {} ", field_name(field))?;
-    match known_value(&mut reader, field)? {
-        Known::Serial(serial) => write!(text, "{serial}")?,
-        Known::Text(bytes) => plain(text, bytes)?,
+impl<O: ByteOrder> Shown<'_, O> {
+    // Shows a known field, whose value begins at a place.
+    fn known_field(&mut self, field: Field, at: usize) -> Result<(), Failure> {
+        let known = known_value(&mut self.reader.moved_to(at), field)?;
+        write!(self.text, "\n  {} {known}", InWords(field))?;
+        Ok(())
     }
-    Ok(())
-}
 
-// Passes the type and the value of a known field.
-fn pass(reader: &mut Reader, field: Field) -> Result<(), Failure> {
-    let _codes = reader.signature()?;
-    reader.pad(field.value_type().alignment());
-    let _value = known_value(reader, field)?;
-    Ok(())
-}
+    // Passes the type and the value of a known field.
+    fn pass(&mut self, field: Field) -> Result<(), Failure> {
+        let _codes = self.reader.signature()?;
+        self.reader.pad(field.value_type().alignment());
+        let _value = known_value(&mut self.reader, field)?;
+        Ok(())
+    }
 
-// Shows the unknown ones of the fields up to `end`.
-fn unknown_fields(text: &mut String, reader: &mut Reader, end: usize) -> Result<(), Failure> {
-    // a field has at least one byte
-    for _ in reader.at()..end {
-        if reader.at() >= end {
-            break;
-        }
-        reader.pad(Alignment::Eight);
-        let code = reader.read_u8()?;
-        match field_of(code) {
-            Some(field) => pass(reader, field)?,
-            None => {
-                write!(text, "\n  field {code} ")?;
-                variant(text, reader, LEVELS)?;
+    // Shows the unknown ones of the fields up to `end`.
+    fn unknown_fields(&mut self, end: usize) -> Result<(), Failure> {
+        // a field has at least one byte
+        for _ in self.reader.at()..end {
+            if self.reader.at() >= end {
+                break;
+            }
+            self.reader.pad(Alignment::Eight);
+            let code = self.reader.read_u8()?;
+            if let Ok(field) = Field::try_from(code) {
+                self.pass(field)?;
+            } else {
+                write!(self.text, "\n  field {code} ")?;
+                self.variant(LEVELS)?;
             }
         }
+        Ok(())
     }
-    Ok(())
+
+    // Shows the values of the body, if it has any.
+    fn body(&mut self, fields: Fields) -> Result<(), Failure> {
+        let Some(at) = fields.place(Field::Signature) else {
+            return Ok(());
+        };
+        let types = self.reader.moved_to(at).signature()?;
+        if types.is_empty() {
+            return Ok(());
+        }
+        self.text.push_str("\n  body ")?;
+        self.values(types, ", ", LEVELS)
+    }
 }
 
-// The types of the body.
-fn types_of<'a>(reader: Reader<'a>, fields: Fields) -> Result<&'a [u8], Failure> {
-    match fields.place(Field::Signature) {
-        Some(at) => reader.moved_to(at).signature(),
-        None => Ok(&[]),
+// The content of a message whose numbers lie in the order O.
+fn ordered<O: ByteOrder>(heap: Global, bytes: &[u8], layout: Layout) -> Result<String, Failure> {
+    let Layout { frame, fields } = layout;
+    let mut shown = Shown {
+        reader: Reader::<O>::new(bytes, START),
+        text: framed(heap, frame, bytes.len())?,
+    };
+    for field in KNOWN {
+        if let Some(at) = fields.place(field) {
+            shown.known_field(field, at)?;
+        }
     }
+    shown.unknown_fields(START + frame.fields as usize)?;
+    shown.reader.pad(Alignment::Eight);
+    shown.body(fields)?;
+    Ok(shown.text)
 }
 
 // What a message holds: a line of its frame, and one of each field and the body.
 pub fn content(heap: Global, bytes: &[u8], layout: Layout) -> Result<String, Failure> {
-    let Layout { frame, fields } = layout;
-    let mut text = framed(heap, frame, bytes.len())?;
-    let mut reader = Reader::new(bytes, frame.order, START);
-    for field in KNOWN {
-        if let Some(at) = fields.place(field) {
-            known_field(&mut text, reader.moved_to(at), field)?;
-        }
+    match layout.frame.order {
+        Order::Little => ordered::<Little>(heap, bytes, layout),
+        Order::Big => ordered::<Big>(heap, bytes, layout),
     }
-    unknown_fields(&mut text, &mut reader, START + frame.fields as usize)?;
-    reader.pad(Alignment::Eight);
-    let types = types_of(reader, fields)?;
-    if !types.is_empty() {
-        text.push_str("\n  body ")?;
-        values(&mut text, &mut reader, types, ", ", LEVELS)?;
-    }
-    Ok(text)
 }

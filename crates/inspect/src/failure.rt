@@ -1,8 +1,10 @@
 // Why a line is not shown.
 use std::alloc::AllocError;
+use std::error::Error;
 use std::fmt;
+use stream::Fault;
 
-#[derive(Clone, Copy)]
+#[derive(Clone, Copy, Debug)]
 pub enum Failure {
     NotHex,
     // never what was found to be a message
@@ -16,10 +18,12 @@ impl From<AllocError> for Failure {
     }
 }
 
-// Text is written into memory, which is all that can fail.
-impl From<fmt::Error> for Failure {
-    fn from(_e: fmt::Error) -> Failure {
-        Failure::OutOfMemory
+impl From<Fault> for Failure {
+    fn from(fault: Fault) -> Failure {
+        match fault {
+            Fault::OutOfMemory => Failure::OutOfMemory,
+            _ => Failure::NotHex,
+        }
     }
 }
 
@@ -32,3 +36,5 @@ impl fmt::Display for Failure {
         })
     }
 }
+
+impl Error for Failure {}

@@ -8,11 +8,13 @@ mod report;
 mod value;
 mod words;
 
-use anyhow::anyhow;
-use report::{Report, report_on};
+use anyhow::Context;
+use console::{Program, Request, is_passed_over, plural};
+use report::report_on;
 use std::env;
 use std::io::{BufRead, BufReader};
 use std::process::ExitCode;
+use words::InWords;
 
 const HELP: &str = "usage: inspect < MESSAGES
 
@@ -22,87 +24,66 @@ A line that is empty or begins with # is passed over.
   --help    print this text
 ";
 
+const PROGRAM: Program = Program {
+    name: "inspect",
+    help: HELP,
+    input: "messages come",
+};
+
 // How many messages were valid and faulty.
-#[derive(Clone, Copy)]
+#[derive(Clone, Copy, Default)]
 struct Score {
     valid: u64,
     faulty: u64,
 }
 
 impl Score {
-    fn add(&mut self, report: &Report) {
-        match report {
-            Report::Valid(_) => self.valid = self.valid.saturating_add(1),
-            Report::Faulty(_) => self.faulty = self.faulty.saturating_add(1),
-        }
-    }
-
     fn messages(self) -> u64 {
         self.valid.saturating_add(self.faulty)
     }
 }
 
-// A line that is passed over.
-fn says_nothing(line: &str) -> bool {
-    line.is_empty() || line.starts_with('#')
-}
-
 // Reports on the messages of standard input. A line that stops it is named by its number.
 fn inspect_input(rt: &HostRuntime) -> anyhow::Result<Score> {
     let heap = rt.alloc();
-    let mut score = Score {
-        valid: 0,
-        faulty: 0,
-    };
-    let mut number: u64 = 0;
-    for row in BufReader::new(heap, rt.stdin())?.lines(heap) {
-        number = number.saturating_add(1);
-        let row = match row {
-            Ok(row) => row,
-            Err(error) => return Err(anyhow!(format!(in heap; "line {number}: {error}")?)),
-        };
-        let line = row.as_str();
-        if says_nothing(line) {
+    let mut score = Score::default();
+    for (number, row) in (1u64..).zip(BufReader::new(heap, rt.stdin())?.lines(heap)) {
+        let row = row.context(format_args!("line {number}"))?;
+        if is_passed_over(row.as_str()) {
             continue;
         }
-        let report = match report_on(heap, line) {
-            Ok(report) => report,
-            Err(failure) => return Err(anyhow!(format!(in heap; "line {number}: {failure}")?)),
-        };
-        score.add(&report);
-        let (Report::Valid(text) | Report::Faulty(text)) = report;
-        println!(rt; "line {number}: {text}")?;
+        match report_on(heap, row.as_str()).context(format_args!("line {number}"))? {
+            Ok(content) => {
+                score.valid = score.valid.saturating_add(1);
+                println!(rt; "line {number}: {content}")?;
+            }
+            Err(fault) => {
+                score.faulty = score.faulty.saturating_add(1);
+                println!(rt; "line {number}: {}", InWords(fault))?;
+            }
+        }
     }
     Ok(score)
 }
 
-fn run(rt: &HostRuntime) -> anyhow::Result<()> {
-    for word in env::args(rt)?.skip(1) {
-        if word.as_str() == "--help" {
-            rt.print(HELP)?;
-            return Ok(());
-        }
-        return Err(anyhow!(
-            "inspect takes no argument but --help; the messages come on standard input"
-        ));
-    }
+fn work(rt: &HostRuntime) -> anyhow::Result<()> {
     let score = inspect_input(rt)?;
     let messages = score.messages();
-    let plural = if messages == 1 { "" } else { "s" };
     println!(rt;
-        "{messages} message{plural}: {} valid, {} faulty",
-        score.valid, score.faulty
+        "{messages} message{}: {} valid, {} faulty",
+        plural(messages), score.valid, score.faulty
     )?;
     Ok(())
 }
 
-fn main(rt: HostRuntime) -> ExitCode {
-    match run(&rt) {
-        Ok(()) => ExitCode::SUCCESS,
-        Err(error) => {
-            // where standard error fails too, the status alone tells
-            let _told = eprintln!(rt; "inspect: {error}");
-            ExitCode::FAILURE
-        }
+fn run(rt: &HostRuntime) -> anyhow::Result<()> {
+    match PROGRAM.request(env::args(rt)?.nth(1).as_deref())? {
+        Request::Help => rt.print(PROGRAM.help)?,
+        Request::Work => work(rt)?,
     }
+    Ok(())
+}
+
+fn main(rt: HostRuntime) -> ExitCode {
+    PROGRAM.end(&rt, run(&rt))
 }

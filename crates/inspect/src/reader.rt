@@ -1,30 +1,34 @@
 // Reading the bytes of a message.
 use crate::failure::Failure;
-use frame::Order;
 use items::gap;
-use order::{Big, ByteOrder, Little};
+use order::ByteOrder;
 use signature::Alignment;
+use std::marker::PhantomData;
 
-// A place in a message, from which what comes next is read.
-#[derive(Clone, Copy)]
-pub struct Reader<'a> {
+// A place in a message of byte order O, from which what comes next is read.
+#[derive(Drop)]
+pub struct Reader<'a, O> {
     bytes: &'a [u8],
-    order: Order,
     at: usize,
+    order: PhantomData<O>,
 }
 
-impl<'a> Reader<'a> {
-    pub fn new(bytes: &'a [u8], order: Order, at: usize) -> Reader<'a> {
-        Reader { bytes, order, at }
-    }
-
-    // The same at another place.
-    pub fn moved_to(self, at: usize) -> Reader<'a> {
-        Reader { at, ..self }
+impl<'a, O: ByteOrder> Reader<'a, O> {
+    pub fn new(bytes: &'a [u8], at: usize) -> Reader<'a, O> {
+        Reader {
+            bytes,
+            at,
+            order: PhantomData,
+        }
     }
 
     pub fn at(&self) -> usize {
         self.at
+    }
+
+    // A reader of the same message at another place.
+    pub fn moved_to(&self, at: usize) -> Reader<'a, O> {
+        Reader::new(self.bytes, at)
     }
 
     // Passes padding.
@@ -34,47 +38,31 @@ impl<'a> Reader<'a> {
 
     // So many bytes.
     fn take(&mut self, size: usize) -> Result<&'a [u8], Failure> {
-        let from = self.at;
-        match from.checked_add(size) {
-            Some(to) if to <= self.bytes.len() => {
-                self.at = to;
-                Ok(&self.bytes[from..to])
-            }
-            _ => Err(Failure::Unreadable),
-        }
+        let to = self.at.checked_add(size).ok_or(Failure::Unreadable)?;
+        let bytes = self.bytes.get(self.at..to).ok_or(Failure::Unreadable)?;
+        self.at = to;
+        Ok(bytes)
     }
 
     fn array<const N: usize>(&mut self) -> Result<[u8; N], Failure> {
-        match <[u8; N]>::try_from(self.take(N)?) {
-            Ok(bytes) => Ok(bytes),
-            Err(_) => Err(Failure::Unreadable),
-        }
+        <[u8; N]>::try_from(self.take(N)?).map_err(|_| Failure::Unreadable)
     }
 
     pub fn read_u8(&mut self) -> Result<u8, Failure> {
-        let [byte] = self.array::<1>()?;
+        let [byte] = self.array()?;
         Ok(byte)
     }
 
     pub fn read_u16(&mut self) -> Result<u16, Failure> {
-        let bytes = self.array::<2>()?;
-        match self.order {
-            Order::Little => Ok(Little::u16_of(bytes)),
-            Order::Big => Ok(Big::u16_of(bytes)),
-        }
+        Ok(O::u16_of(self.array()?))
     }
 
     pub fn read_u32(&mut self) -> Result<u32, Failure> {
-        let bytes = self.array::<4>()?;
-        Ok(self.order.u32_of(bytes))
+        Ok(O::u32_of(self.array()?))
     }
 
     pub fn read_u64(&mut self) -> Result<u64, Failure> {
-        let bytes = self.array::<8>()?;
-        match self.order {
-            Order::Little => Ok(Little::u64_of(bytes)),
-            Order::Big => Ok(Big::u64_of(bytes)),
-        }
+        Ok(O::u64_of(self.array()?))
     }
 
     // So many bytes, and the zero byte that ends them.
@@ -93,6 +81,6 @@ impl<'a> Reader<'a> {
     // The codes of a signature.
     pub fn signature(&mut self) -> Result<&'a [u8], Failure> {
         let size = self.read_u8()?;
-        self.closed(size as usize)
+        self.closed(usize::from(size))
     }
 }

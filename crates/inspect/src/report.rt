@@ -1,50 +1,27 @@
 // What is said of a line.
 use crate::content::content;
 use crate::failure::Failure;
-use crate::words::{cause_in_words, part_in_words};
 use items::Fault;
 use message::read;
-use std::alloc::{AllocError, Global};
-use stream::{Fault as NoBytes, unhex};
+use std::alloc::Global;
+use stream::unhex;
 
 // The most bytes that a message may have.
 const LIMIT: usize = 1000;
-
-// What a message holds, or what is wrong with bytes that are none.
-#[derive(Drop)]
-pub enum Report {
-    Valid(String),
-    Faulty(String),
-}
 
 // The bytes of a line. A `-`, which elsewhere stands for none, is no hex digit.
 fn bytes_of(heap: Global, line: &str) -> Result<Vec<u8>, Failure> {
     if line == "-" {
         return Err(Failure::NotHex);
     }
-    match unhex(heap, line.as_bytes()) {
-        Ok(bytes) => Ok(bytes),
-        Err(NoBytes::OutOfMemory) => Err(Failure::OutOfMemory),
-        Err(_) => Err(Failure::NotHex),
-    }
+    Ok(unhex(heap, line.as_bytes())?)
 }
 
-fn fault_in_words(heap: Global, fault: Fault) -> Result<String, AllocError> {
-    let Fault { part, cause, byte } = fault;
-    format!(in heap;
-        "fault in {} at byte {byte}: {} (part {}, cause {})",
-        part_in_words(part),
-        cause_in_words(cause),
-        part.number(),
-        cause.number()
-    )
-}
-
-// What is said of a line of hex digits.
-pub fn report_on(heap: Global, line: &str) -> Result<Report, Failure> {
+// What the message holds that a line of hex digits spells, or what is wrong with bytes that are none.
+pub fn report_on(heap: Global, line: &str) -> Result<Result<String, Fault>, Failure> {
     let bytes = bytes_of(heap, line)?;
     match read(bytes.as_slice(), LIMIT) {
-        Ok(layout) => Ok(Report::Valid(content(heap, bytes.as_slice(), layout)?)),
-        Err(fault) => Ok(Report::Faulty(fault_in_words(heap, fault)?)),
+        Ok(layout) => Ok(Ok(content(heap, bytes.as_slice(), layout)?)),
+        Err(fault) => Ok(Err(fault)),
     }
 }

@@ -1,72 +1,31 @@
 // Showing values.
 use crate::failure::Failure;
 use crate::reader::Reader;
-use signature::{Basic, Head, element_end, head_of};
+use crate::words::{Plain, Quoted};
+use order::ByteOrder;
+use signature::{Basic, Head, element_end};
 
 // How deep values nest: at most 64 stand around one.
 pub const LEVELS: usize = 65;
 
-// Adds bytes of ASCII.
-pub fn plain(text: &mut String, bytes: &[u8]) -> Result<(), Failure> {
-    for b in bytes {
-        text.push(char::from(*b))?;
-    }
-    Ok(())
-}
-
-fn quoted(text: &mut String, bytes: &[u8]) -> Result<(), Failure> {
-    text.push('"')?;
-    for b in bytes {
-        match *b {
-            b'"' => text.push_str("\\x22")?,
-            b'\\' => text.push_str("\\x5c")?,
-            b' '..=b'~' => text.push(char::from(*b))?,
-            other => write!(text, "\\x{other:02x}")?,
-        }
-    }
-    text.push('"')?;
-    Ok(())
-}
-
-// Shows a value of a basic type.
-fn basic(text: &mut String, reader: &mut Reader, kind: Basic) -> Result<(), Failure> {
-    match kind {
-        Basic::Byte => write!(text, "{}", reader.read_u8()?)?,
-        Basic::Boolean => text.push_str(if reader.read_u32()? == 0 {
-            "false"
-        } else {
-            "true"
-        })?,
-        Basic::Int16 => write!(text, "{}", reader.read_u16()?.cast_signed())?,
-        Basic::Uint16 => write!(text, "{}", reader.read_u16()?)?,
-        Basic::Int32 => write!(text, "{}", reader.read_u32()?.cast_signed())?,
-        Basic::Uint32 => write!(text, "{}", reader.read_u32()?)?,
-        Basic::Int64 => write!(text, "{}", reader.read_u64()?.cast_signed())?,
-        Basic::Uint64 => write!(text, "{}", reader.read_u64()?)?,
-        Basic::Double => write!(text, "0x{:016x}", reader.read_u64()?)?,
-        Basic::Text | Basic::Path => quoted(text, reader.text()?)?,
-        Basic::Signature => quoted(text, reader.signature()?)?,
-    }
-    Ok(())
+// A message as it is shown: what is read next of it, and the text so far.
+#[derive(Drop)]
+pub struct Shown<'a, O> {
+    pub reader: Reader<'a, O>,
+    pub text: String,
 }
 
 // What a type begins with, and the codes behind that.
 fn opened(codes: &[u8]) -> Result<(Head, &[u8]), Failure> {
-    let Some((first, inner)) = codes.split_first() else {
-        return Err(Failure::Unreadable);
-    };
-    match head_of(*first) {
-        Some(head) => Ok((head, inner)),
-        None => Err(Failure::Unreadable),
-    }
+    let (first, inner) = codes.split_first().ok_or(Failure::Unreadable)?;
+    let head = Head::try_from(*first).map_err(|_| Failure::Unreadable)?;
+    Ok((head, inner))
 }
 
 // The codes before the closing bracket.
 fn members(inner: &[u8]) -> Result<&[u8], Failure> {
-    match inner.split_last() {
-        Some((_, types)) => Ok(types),
-        None => Err(Failure::Unreadable),
-    }
+    let (_, types) = inner.split_last().ok_or(Failure::Unreadable)?;
+    Ok(types)
 }
 
 // The first type, and those behind it.
@@ -77,97 +36,98 @@ fn parted(types: &[u8]) -> Result<(&[u8], &[u8]), Failure> {
     }
 }
 
-// Shows a value of the type or dict entry that the codes spell, which goes at most so many levels deep.
-#[cycle(array_value_values_variant)]
-fn value(
-    text: &mut String,
-    reader: &mut Reader,
-    codes: &[u8],
-    levels: usize,
-) -> Result<(), Failure> {
-    let Some(inside) = levels.checked_sub(1) else {
-        return Err(Failure::Unreadable);
-    };
-    let (head, inner) = opened(codes)?;
-    reader.pad(head.alignment());
-    match head {
-        Head::Basic(kind) => basic(text, reader, kind)?,
-        Head::Variant => variant(text, reader, inside)?,
-        Head::Array => array(text, reader, inner, inside)?,
-        Head::Struct => {
-            text.push('(')?;
-            values(text, reader, members(inner)?, ", ", inside)?;
-            text.push(')')?;
+impl<O: ByteOrder> Shown<'_, O> {
+    // Shows a value of a basic type.
+    fn basic(&mut self, kind: Basic) -> Result<(), Failure> {
+        let Shown { reader, text } = self;
+        match kind {
+            Basic::Byte => write!(text, "{}", reader.read_u8()?)?,
+            Basic::Boolean => write!(text, "{}", reader.read_u32()? != 0)?,
+            Basic::Int16 => write!(text, "{}", reader.read_u16()?.cast_signed())?,
+            Basic::Uint16 => write!(text, "{}", reader.read_u16()?)?,
+            Basic::Int32 => write!(text, "{}", reader.read_u32()?.cast_signed())?,
+            Basic::Uint32 => write!(text, "{}", reader.read_u32()?)?,
+            Basic::Int64 => write!(text, "{}", reader.read_u64()?.cast_signed())?,
+            Basic::Uint64 => write!(text, "{}", reader.read_u64()?)?,
+            Basic::Double => write!(text, "0x{:016x}", reader.read_u64()?)?,
+            Basic::Text | Basic::Path => write!(text, "{}", Quoted(reader.text()?))?,
+            Basic::Signature => write!(text, "{}", Quoted(reader.signature()?))?,
         }
-        Head::Entry => values(text, reader, members(inner)?, ": ", inside)?,
+        Ok(())
     }
-    Ok(())
-}
 
-// Shows values of these types, one after the other.
-#[cycle(array_value_values_variant)]
-pub fn values(
-    text: &mut String,
-    reader: &mut Reader,
-    types: &[u8],
-    between: &str,
-    levels: usize,
-) -> Result<(), Failure> {
-    let mut left = types;
-    // a type has at least one code
-    for k in 0..types.len() {
-        if left.is_empty() {
-            break;
+    // Shows a value of the type or dict entry that the codes spell, which goes at most so many levels deep.
+    #[cycle(array_value_values_variant)]
+    fn value(&mut self, codes: &[u8], levels: usize) -> Result<(), Failure> {
+        let inside = levels.checked_sub(1).ok_or(Failure::Unreadable)?;
+        let (head, inner) = opened(codes)?;
+        self.reader.pad(head.alignment());
+        match head {
+            Head::Basic(kind) => self.basic(kind)?,
+            Head::Variant => self.variant(inside)?,
+            Head::Array => self.array(inner, inside)?,
+            Head::Struct => {
+                self.text.push('(')?;
+                self.values(members(inner)?, ", ", inside)?;
+                self.text.push(')')?;
+            }
+            Head::Entry => self.values(members(inner)?, ": ", inside)?,
         }
-        if k > 0 {
-            text.push_str(between)?;
-        }
-        let (first, rest) = parted(left)?;
-        value(text, reader, first, levels)?;
-        left = rest;
+        Ok(())
     }
-    Ok(())
-}
 
-// Shows a variant: its type and its value.
-#[cycle(array_value_values_variant)]
-pub fn variant(text: &mut String, reader: &mut Reader, levels: usize) -> Result<(), Failure> {
-    let codes = reader.signature()?;
-    text.push('<')?;
-    plain(text, codes)?;
-    text.push(' ')?;
-    value(text, reader, codes, levels)?;
-    text.push('>')?;
-    Ok(())
-}
-
-// Shows an array of what the codes spell, a type or a dict entry.
-#[cycle(array_value_values_variant)]
-fn array(
-    text: &mut String,
-    reader: &mut Reader,
-    element: &[u8],
-    levels: usize,
-) -> Result<(), Failure> {
-    let size = reader.read_u32()? as usize;
-    let (head, _) = opened(element)?;
-    let (open, close) = match head {
-        Head::Entry => ('{', '}'),
-        _ => ('[', ']'),
-    };
-    reader.pad(head.alignment());
-    let end = reader.at().saturating_add(size);
-    text.push(open)?;
-    // an element has at least one byte
-    for k in 0..size {
-        if reader.at() >= end {
-            break;
+    // Shows values of these types, one after the other.
+    #[cycle(array_value_values_variant)]
+    pub fn values(&mut self, types: &[u8], between: &str, levels: usize) -> Result<(), Failure> {
+        let mut left = types;
+        // a type has at least one code
+        for k in 0..types.len() {
+            if left.is_empty() {
+                break;
+            }
+            if k > 0 {
+                self.text.push_str(between)?;
+            }
+            let (first, rest) = parted(left)?;
+            self.value(first, levels)?;
+            left = rest;
         }
-        if k > 0 {
-            text.push_str(", ")?;
-        }
-        value(text, reader, element, levels)?;
+        Ok(())
     }
-    text.push(close)?;
-    Ok(())
+
+    // Shows a variant: its type and its value.
+    #[cycle(array_value_values_variant)]
+    pub fn variant(&mut self, levels: usize) -> Result<(), Failure> {
+        let codes = self.reader.signature()?;
+        write!(self.text, "<{} ", Plain(codes))?;
+        self.value(codes, levels)?;
+        self.text.push('>')?;
+        Ok(())
+    }
+
+    // Shows an array of what the codes spell, a type or a dict entry.
+    #[cycle(array_value_values_variant)]
+    fn array(&mut self, element: &[u8], levels: usize) -> Result<(), Failure> {
+        let size = self.reader.read_u32()? as usize;
+        let (head, _) = opened(element)?;
+        let (open, close) = match head {
+            Head::Entry => ('{', '}'),
+            _ => ('[', ']'),
+        };
+        self.reader.pad(head.alignment());
+        let end = self.reader.at().saturating_add(size);
+        self.text.push(open)?;
+        // an element has at least one byte
+        for k in 0..size {
+            if self.reader.at() >= end {
+                break;
+            }
+            if k > 0 {
+                self.text.push_str(", ")?;
+            }
+            self.value(element, levels)?;
+        }
+        self.text.push(close)?;
+        Ok(())
+    }
 }

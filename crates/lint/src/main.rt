@@ -4,7 +4,8 @@
 mod question;
 mod verdict;
 
-use anyhow::anyhow;
+use anyhow::Context;
+use console::{Program, Request, is_passed_over, plural};
 use question::{Question, read};
 use std::env;
 use std::io::{BufRead, BufReader};
@@ -23,8 +24,14 @@ A line is one of
   --help    print this text
 ";
 
+const PROGRAM: Program = Program {
+    name: "lint",
+    help: HELP,
+    input: "questions come",
+};
+
 // How many questions were answered by yes and by no.
-#[derive(Clone, Copy)]
+#[derive(Clone, Copy, Default)]
 struct Score {
     yes: u64,
     no: u64,
@@ -32,11 +39,12 @@ struct Score {
 
 impl Score {
     fn add(&mut self, verdict: Verdict) {
-        if verdict.is_yes() {
-            self.yes = self.yes.saturating_add(1);
+        let count = if verdict.is_yes() {
+            &mut self.yes
         } else {
-            self.no = self.no.saturating_add(1);
-        }
+            &mut self.no
+        };
+        *count = count.saturating_add(1);
     }
 
     fn questions(self) -> u64 {
@@ -44,30 +52,17 @@ impl Score {
     }
 }
 
-// A line that is passed over.
-fn asks_nothing(line: &str) -> bool {
-    line.is_empty() || line.starts_with('#')
-}
-
 // Answers what standard input asks. A line that stops it is named by its number.
 fn answer_input(rt: &HostRuntime) -> anyhow::Result<Score> {
     let heap = rt.alloc();
-    let mut score = Score { yes: 0, no: 0 };
-    let mut number: u64 = 0;
-    for row in BufReader::new(heap, rt.stdin())?.lines(heap) {
-        number = number.saturating_add(1);
-        let row = match row {
-            Ok(row) => row,
-            Err(error) => return Err(anyhow!(format!(in heap; "line {number}: {error}")?)),
-        };
+    let mut score = Score::default();
+    for (number, row) in (1u64..).zip(BufReader::new(heap, rt.stdin())?.lines(heap)) {
+        let row = row.context(format_args!("line {number}"))?;
         let line = row.as_str();
-        if asks_nothing(line) {
+        if is_passed_over(line) {
             continue;
         }
-        let Question { kind, bytes } = match read(heap, line) {
-            Ok(question) => question,
-            Err(wrong) => return Err(anyhow!(format!(in heap; "line {number}: {wrong}")?)),
-        };
+        let Question { kind, bytes } = read(heap, line).context(format_args!("line {number}"))?;
         let verdict = judge(kind, bytes.as_slice());
         score.add(verdict);
         println!(rt; "{:<3} {line}{}", verdict.word(), verdict.note())?;
@@ -75,33 +70,26 @@ fn answer_input(rt: &HostRuntime) -> anyhow::Result<Score> {
     Ok(score)
 }
 
-fn run(rt: &HostRuntime) -> anyhow::Result<()> {
-    for word in env::args(rt)?.skip(1) {
-        if word.as_str() == "--help" {
-            rt.print(HELP)?;
-            return Ok(());
-        }
-        return Err(anyhow!(
-            "lint takes no argument but --help; the questions come on standard input"
-        ));
-    }
+fn work(rt: &HostRuntime) -> anyhow::Result<()> {
     let score = answer_input(rt)?;
     let questions = score.questions();
-    let plural = if questions == 1 { "" } else { "s" };
     println!(rt;
-        "{questions} question{plural}: {} yes, {} no",
-        score.yes, score.no
+        "{questions} question{}: {} yes, {} no",
+        plural(questions),
+        score.yes,
+        score.no
     )?;
     Ok(())
 }
 
-fn main(rt: HostRuntime) -> ExitCode {
-    match run(&rt) {
-        Ok(()) => ExitCode::SUCCESS,
-        Err(error) => {
-            // where standard error fails too, the status alone tells
-            let _told = eprintln!(rt; "lint: {error}");
-            ExitCode::FAILURE
-        }
+fn run(rt: &HostRuntime) -> anyhow::Result<()> {
+    match PROGRAM.request(env::args(rt)?.nth(1).as_deref())? {
+        Request::Help => rt.print(PROGRAM.help)?,
+        Request::Work => work(rt)?,
     }
+    Ok(())
+}
+
+fn main(rt: HostRuntime) -> ExitCode {
+    PROGRAM.end(&rt, run(&rt))
 }

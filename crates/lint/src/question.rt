@@ -1,6 +1,8 @@
 // The questions: what a line asks.
 use std::alloc::{AllocError, Global};
+use std::error::Error;
 use std::fmt;
+use std::str::FromStr;
 use stream::{Fault, unhex};
 
 // What a text may be said to be.
@@ -23,7 +25,7 @@ pub struct Question {
 }
 
 // Why a line asks nothing.
-#[derive(Clone, Copy)]
+#[derive(Clone, Copy, Debug)]
 pub enum Wrong {
     NoSuchQuestion,
     NoSuchKind,
@@ -57,16 +59,22 @@ impl fmt::Display for Wrong {
     }
 }
 
-fn kind_named(word: &str) -> Option<Kind> {
-    match word {
-        "signature" => Some(Kind::Signature),
-        "path" => Some(Kind::Path),
-        "member" => Some(Kind::Member),
-        "interface" => Some(Kind::Interface),
-        "error" => Some(Kind::Error),
-        "busname" => Some(Kind::BusName),
-        "text" => Some(Kind::Text),
-        _ => None,
+impl Error for Wrong {}
+
+impl FromStr for Kind {
+    type Err = Wrong;
+
+    fn from_str(word: &str) -> Result<Kind, Wrong> {
+        match word {
+            "signature" => Ok(Kind::Signature),
+            "path" => Ok(Kind::Path),
+            "member" => Ok(Kind::Member),
+            "interface" => Ok(Kind::Interface),
+            "error" => Ok(Kind::Error),
+            "busname" => Ok(Kind::BusName),
+            "text" => Ok(Kind::Text),
+            _ => Err(Wrong::NoSuchKind),
+        }
     }
 }
 
@@ -78,9 +86,7 @@ fn parted(text: &str) -> (&str, &str) {
 // What is behind `hex`: a kind, and the bytes in hex digits.
 fn read_hex(heap: Global, text: &str) -> Result<Question, Wrong> {
     let (word, digits) = parted(text);
-    let Some(kind) = kind_named(word) else {
-        return Err(Wrong::NoSuchKind);
-    };
+    let kind = word.parse()?;
     let bytes = unhex(heap, digits.as_bytes())?;
     Ok(Question { kind, bytes })
 }
@@ -88,12 +94,12 @@ fn read_hex(heap: Global, text: &str) -> Result<Question, Wrong> {
 // What the line asks, which is neither empty nor a comment.
 pub fn read(heap: Global, line: &str) -> Result<Question, Wrong> {
     let (word, text) = parted(line);
-    match kind_named(word) {
-        Some(kind) => {
-            let bytes = text.as_bytes().to_vec(heap)?;
-            Ok(Question { kind, bytes })
-        }
-        None if word == "hex" => read_hex(heap, text),
-        None => Err(Wrong::NoSuchQuestion),
+    if word == "hex" {
+        return read_hex(heap, text);
     }
+    let Ok(kind) = word.parse() else {
+        return Err(Wrong::NoSuchQuestion);
+    };
+    let bytes = text.as_bytes().to_vec(heap)?;
+    Ok(Question { kind, bytes })
 }

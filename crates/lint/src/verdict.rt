@@ -15,10 +15,7 @@ pub enum Verdict {
 
 impl Verdict {
     pub fn is_yes(self) -> bool {
-        match self {
-            Verdict::No => false,
-            Verdict::Yes | Verdict::Named(_) => true,
-        }
+        !matches!(self, Verdict::No)
     }
 
     // What is printed in front of the line.
@@ -45,10 +42,7 @@ pub fn judge(kind: Kind, bytes: &[u8]) -> Verdict
         Kind::Path if is_path(bytes) => Verdict::Yes,
         Kind::Member if is_member(bytes) => Verdict::Yes,
         Kind::Interface | Kind::Error if is_interface(bytes) => Verdict::Yes,
-        Kind::BusName => match bus_name(bytes) {
-            Some(name) => Verdict::Named(name),
-            None => Verdict::No,
-        },
+        Kind::BusName => bus_name(bytes).map_or(Verdict::No, Verdict::Named),
         Kind::Text if is_text(bytes) => Verdict::Yes,
         _ => Verdict::No,
     }

@@ -3,9 +3,9 @@
 
 mod script;
 
-use anyhow::anyhow;
-use hex_digits::pair;
-use mailbox::{MailboxSet, Refusal};
+use anyhow::{Context, anyhow};
+use console::{Program, Request};
+use mailbox::MailboxSet;
 use roll::Roll;
 use script::{Line, Wrong, read};
 use shelf::Shelf;
@@ -14,6 +14,7 @@ use std::env;
 use std::io::{BufRead, BufReader};
 use std::process::ExitCode;
 use steps::{Answers, Outcome, Step, compare};
+use stream::Hex;
 
 const HELP: &str = "usage: mailroom < SCRIPT
 
@@ -22,6 +23,12 @@ It fails if the two ever answer differently, or a line is no step.
 
   --help    print this text
 ";
+
+const PROGRAM: Program = Program {
+    name: "mailroom",
+    help: HELP,
+    input: "script comes",
+};
 
 const DIFFERS: &str = ", but the roll differs";
 
@@ -38,7 +45,7 @@ struct Room {
 }
 
 // How many steps were carried out, and how many were answered differently.
-#[derive(Clone, Copy)]
+#[derive(Clone, Copy, Default)]
 struct Score {
     steps: u64,
     differing: u64,
@@ -59,42 +66,13 @@ fn made(heap: Global, limit: usize) -> Result<Room, AllocError> {
     Ok(Room { shelf, roll })
 }
 
-fn in_hex(heap: Global, bytes: &[u8]) -> Result<String, AllocError> {
-    let mut text = String::new(heap);
-    if bytes.is_empty() {
-        text.push('-')?;
-    }
-    for b in bytes {
-        let [high, low] = pair(*b);
-        text.push(char::from(high))?;
-        text.push(char::from(low))?;
-    }
-    Ok(text)
-}
-
-fn name_of(refusal: Refusal) -> &'static str {
-    match refusal {
-        Refusal::NoMailbox => "no mailbox",
-        Refusal::BadLength => "bad length",
-        Refusal::Full => "full",
-        Refusal::ShortBuffer => "short buffer",
-    }
-}
-
 // What came of a step that is not `limit`, as it is printed.
 fn told(heap: Global, line: &Line, outcome: Outcome, taken: &[u8]) -> Result<String, AllocError> {
-    let hex = in_hex(heap, taken)?;
     match (line, outcome) {
         (Line::Put(c, _), Outcome::Put(Ok(()))) => format!(in heap; "put {c}: ok"),
-        (Line::Put(c, _), Outcome::Put(Err(refusal))) => format!(in heap;
-            "put {c}: {}",
-            name_of(refusal)
-        ),
-        (Line::Take(c, _), Outcome::Taken(Ok(n))) => format!(in heap; "take {c}: {n} {hex}"),
-        (Line::Take(c, _), Outcome::Taken(Err(refusal))) => format!(in heap;
-            "take {c}: {}",
-            name_of(refusal)
-        ),
+        (Line::Put(c, _), Outcome::Put(Err(refusal))) => format!(in heap; "put {c}: {refusal}"),
+        (Line::Take(c, _), Outcome::Taken(Ok(n))) => format!(in heap; "take {c}: {n} {}", Hex(taken)),
+        (Line::Take(c, _), Outcome::Taken(Err(refusal))) => format!(in heap; "take {c}: {refusal}"),
         (Line::Count(c), Outcome::Counted(n)) => format!(in heap; "count {c}: {n}"),
         (Line::Clear(c), _) => format!(in heap; "clear {c}"),
         _ => String::from_str(heap, "?"),
@@ -114,7 +92,7 @@ fn carry_out(rt: &HostRuntime, room: &mut Room, line: &Line) -> anyhow::Result<b
     let heap = rt.alloc();
     let (step, size) = match line {
         Line::Put(c, message) => (Step::Put(*c, message.as_slice()), 0),
-        Line::Take(c, size) => (Step::Take(*c), *size),
+        Line::Take(c, size) => (Step::Take(*c), usize::from(*size)),
         Line::Clear(c) => (Step::Clear(*c), 0),
         Line::Count(c) => (Step::Count(*c), 0),
         Line::Limit(_) => return Ok(true),
@@ -174,36 +152,29 @@ fn play(
 
 // A line without its comment and the spaces at its end.
 fn content(line: &str) -> &str {
-    match line.split_once('#') {
-        Some((before, _)) => before.trim_end(),
-        None => line.trim_end(),
-    }
+    line.split_once('#')
+        .map_or(line, |(before, _)| before)
+        .trim_end()
 }
 
 // Carries out standard input. A line that stops it is named by its number.
 fn play_input(rt: &HostRuntime) -> anyhow::Result<Score> {
     let heap = rt.alloc();
-    let mut score = Score {
-        steps: 0,
-        differing: 0,
-    };
+    let mut score = Score::default();
     let mut room: Option<Room> = None;
-    let mut number: u64 = 0;
-    for row in BufReader::new(heap, rt.stdin())?.lines(heap) {
+    for (number, row) in (1u64..).zip(BufReader::new(heap, rt.stdin())?.lines(heap)) {
         let row = row?;
-        number = number.saturating_add(1);
         let text = content(row.as_str());
         if text.is_empty() {
             continue;
         }
-        let line = match read(heap, text) {
-            Ok(line) => line,
-            Err(wrong) => return Err(anyhow!(format!(in heap; "line {number}: {wrong}")?)),
-        };
-        room = play(rt, room.take(), &line, &mut score)?;
-        if room.is_none() {
-            return Err(anyhow!(format!(in heap; "line {number}: {}", Wrong::NoLimit)?));
-        }
+        let line = read(heap, text).context(format_args!("line {number}"))?;
+        let played = play(rt, room.take(), &line, &mut score)?;
+        room = Some(
+            played
+                .ok_or(Wrong::NoLimit)
+                .context(format_args!("line {number}"))?
+        );
     }
     if let Some(room) = &room {
         print_waiting(rt, room)?;
@@ -211,16 +182,7 @@ fn play_input(rt: &HostRuntime) -> anyhow::Result<Score> {
     Ok(score)
 }
 
-fn run(rt: &HostRuntime) -> anyhow::Result<()> {
-    for word in env::args(rt)?.skip(1) {
-        if word.as_str() == "--help" {
-            rt.print(HELP)?;
-            return Ok(());
-        }
-        return Err(anyhow!(
-            "mailroom takes no argument but --help; the script comes on standard input"
-        ));
-    }
+fn work(rt: &HostRuntime) -> anyhow::Result<()> {
     let Score { steps, differing } = play_input(rt)?;
     if differing > 0 {
         println!(rt; "{steps} steps, {differing} of them answered differently")?;
@@ -230,13 +192,14 @@ fn run(rt: &HostRuntime) -> anyhow::Result<()> {
     Ok(())
 }
 
-fn main(rt: HostRuntime) -> ExitCode {
-    match run(&rt) {
-        Ok(()) => ExitCode::SUCCESS,
-        Err(error) => {
-            // where standard error fails too, the status alone tells
-            let _told = eprintln!(rt; "mailroom: {error}");
-            ExitCode::FAILURE
-        }
+fn run(rt: &HostRuntime) -> anyhow::Result<()> {
+    match PROGRAM.request(env::args(rt)?.nth(1).as_deref())? {
+        Request::Help => rt.print(PROGRAM.help)?,
+        Request::Work => work(rt)?,
     }
+    Ok(())
+}
+
+fn main(rt: HostRuntime) -> ExitCode {
+    PROGRAM.end(&rt, run(&rt))
 }

@@ -1,20 +1,25 @@
 // The lines of a script.
 use std::alloc::Global;
+use std::error::Error;
 use std::fmt;
+use std::str::FromStr;
 use stream::{Fault, unhex};
+
+// The largest limit.
+const MOST: usize = 16;
 
 // A line of a script.
 #[derive(Drop)]
 pub enum Line {
     Limit(usize),
     Put(u8, Vec<u8>),
-    Take(u8, usize),
+    Take(u8, u16),
     Clear(u8),
     Count(u8),
 }
 
 // Why a line is no step.
-#[derive(Clone, Copy)]
+#[derive(Clone, Copy, Debug)]
 pub enum Wrong {
     NoSuchStep,
     // a step before the first `limit`
@@ -38,53 +43,51 @@ impl fmt::Display for Wrong {
     }
 }
 
-fn number(word: Option<&str>, most: u64) -> Result<u64, Wrong> {
-    let Some(text) = word else {
-        return Err(Wrong::BadNumber);
-    };
-    match text.parse::<u64>() {
-        Ok(n) if n <= most => Ok(n),
-        _ => Err(Wrong::BadNumber),
+impl Error for Wrong {}
+
+impl From<Fault> for Wrong {
+    fn from(fault: Fault) -> Wrong {
+        match fault {
+            Fault::OutOfMemory => Wrong::OutOfMemory,
+            _ => Wrong::BadHex,
+        }
     }
 }
 
-fn connection(word: Option<&str>) -> Result<u8, Wrong> {
-    match u8::try_from(number(word, 255)?) {
-        Ok(c) => Ok(c),
-        Err(_) => Err(Wrong::BadNumber),
+fn number<T: FromStr>(word: Option<&str>) -> Result<T, Wrong>
+where
+    T::Err: Drop,
+{
+    word.and_then(|text| text.parse::<T>().ok())
+        .ok_or(Wrong::BadNumber)
+}
+
+fn limit(word: Option<&str>) -> Result<usize, Wrong> {
+    let limit = number::<usize>(word)?;
+    if limit > MOST {
+        return Err(Wrong::BadNumber);
     }
+    Ok(limit)
 }
 
 fn message(heap: Global, word: Option<&str>) -> Result<Vec<u8>, Wrong> {
-    let Some(text) = word else {
-        return Err(Wrong::BadHex);
-    };
-    match unhex(heap, text.as_bytes()) {
-        Ok(bytes) => Ok(bytes),
-        Err(Fault::OutOfMemory) => Err(Wrong::OutOfMemory),
-        Err(_) => Err(Wrong::BadHex),
-    }
+    let text = word.ok_or(Wrong::BadHex)?;
+    Ok(unhex(heap, text.as_bytes())?)
 }
 
 // What the text says, which has no comment.
 pub fn read(heap: Global, text: &str) -> Result<Line, Wrong> {
     let mut words = text.split(' ');
     let line = match words.next() {
-        Some("limit") => Line::Limit(number(words.next(), 16)? as usize),
-        Some("put") => {
-            let c = connection(words.next())?;
-            Line::Put(c, message(heap, words.next())?)
-        }
-        Some("take") => {
-            let c = connection(words.next())?;
-            Line::Take(c, number(words.next(), 65535)? as usize)
-        }
-        Some("clear") => Line::Clear(connection(words.next())?),
-        Some("count") => Line::Count(connection(words.next())?),
+        Some("limit") => Line::Limit(limit(words.next())?),
+        Some("put") => Line::Put(number(words.next())?, message(heap, words.next())?),
+        Some("take") => Line::Take(number(words.next())?, number(words.next())?),
+        Some("clear") => Line::Clear(number(words.next())?),
+        Some("count") => Line::Count(number(words.next())?),
         _ => return Err(Wrong::NoSuchStep),
     };
-    match words.next() {
-        Some(_) => Err(Wrong::TooManyWords),
-        None => Ok(line),
+    if words.next().is_some() {
+        return Err(Wrong::TooManyWords);
     }
+    Ok(line)
 }

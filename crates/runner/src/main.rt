@@ -3,9 +3,10 @@
 
 mod session;
 
-use anyhow::anyhow;
+use anyhow::{Context, anyhow};
+use console::{Program, Request, plural};
 use replay::tally::{Count, Tally};
-use session::Session;
+use session::{Disagreement, Session};
 use std::env;
 use std::io::{BufRead, BufReader};
 use std::process::ExitCode;
@@ -18,9 +19,11 @@ and says what was accomplished. It fails if an answer disagrees or the stream is
   --help    print this text
 ";
 
-fn plural(n: u64) -> &'static str {
-    if n == 1 { "" } else { "s" }
-}
+const PROGRAM: Program = Program {
+    name: "runner",
+    help: HELP,
+    input: "stream comes",
+};
 
 fn print_count(rt: &HostRuntime, name: &str, count: Count) -> anyhow::Result<()> {
     let made = count.made;
@@ -51,36 +54,18 @@ fn print_summary(rt: &HostRuntime, tally: Tally) -> anyhow::Result<()> {
 fn replay_input(rt: &HostRuntime) -> anyhow::Result<Tally> {
     let heap = rt.alloc();
     let mut session = Session::new();
-    let mut number: u64 = 0;
-    for line in BufReader::new(heap, rt.stdin())?.lines(heap) {
+    for (number, line) in (1u64..).zip(BufReader::new(heap, rt.stdin())?.lines(heap)) {
         let line = line?;
-        number = number.saturating_add(1);
-        match session.row(heap, line.as_bytes()) {
-            Ok(None) => {}
-            Ok(Some(wrong)) => {
-                let expected = wrong.expected;
-                let came = wrong.came;
-                println!(rt; "line {number}: expected '{expected}', came '{came}'")?;
-            }
-            Err(trouble) => return Err(anyhow!(format!(in heap; "line {number}: {trouble}")?)),
+        let judged = session.row(heap, line.as_bytes());
+        if let Some(wrong) = judged.context(format_args!("line {number}"))? {
+            let Disagreement { expected, came } = wrong;
+            println!(rt; "line {number}: expected '{expected}', came '{came}'")?;
         }
     }
-    match session.end() {
-        Ok(tally) => Ok(tally),
-        Err(trouble) => Err(anyhow!(format!(in heap; "at the end: {trouble}")?)),
-    }
+    session.end().context("at the end")
 }
 
-fn run(rt: &HostRuntime) -> anyhow::Result<()> {
-    for word in env::args(rt)?.skip(1) {
-        if word.as_str() == "--help" {
-            rt.print(HELP)?;
-            return Ok(());
-        }
-        return Err(anyhow!(
-            "runner takes no argument but --help; the stream comes on standard input"
-        ));
-    }
+fn work(rt: &HostRuntime) -> anyhow::Result<()> {
     let tally = replay_input(rt)?;
     print_summary(rt, tally)?;
     let wrong = tally.calls().saturating_sub(tally.agreed);
@@ -93,15 +78,16 @@ fn run(rt: &HostRuntime) -> anyhow::Result<()> {
     Ok(())
 }
 
-fn main(rt: HostRuntime) -> ExitCode {
-    match run(&rt) {
-        Ok(()) => ExitCode::SUCCESS,
-        Err(error) => {
-            // where standard error fails too, the status alone tells
-            let _told = eprintln!(rt; "runner: {error}");
-            ExitCode::FAILURE
-        }
+fn run(rt: &HostRuntime) -> anyhow::Result<()> {
+    match PROGRAM.request(env::args(rt)?.nth(1).as_deref())? {
+        Request::Help => rt.print(PROGRAM.help)?,
+        Request::Work => work(rt)?,
     }
+    Ok(())
+}
+
+fn main(rt: HostRuntime) -> ExitCode {
+    PROGRAM.end(&rt, run(&rt))
 }
 
 #[cfg(test)]

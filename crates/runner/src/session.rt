@@ -3,6 +3,7 @@ use lives::table::Lives;
 use replay::perform::{Unmade, perform};
 use replay::tally::Tally;
 use std::alloc::Global;
+use std::error::Error;
 use std::fmt;
 use stream::{Answer, Call, Fault, Form, agrees, content, is_answer, read_answer, read_call};
 
@@ -39,6 +40,8 @@ impl fmt::Display for Trouble {
         }
     }
 }
+
+impl Error for Trouble {}
 
 fn name_of(call: &Call) -> &'static str {
     match call {

@@ -1,5 +1,5 @@
 use Rattle.std.proofs.Common.{◌+◌, ◌*◌}
-use Rattle.inspect.proofs.value.+array_value_values_variant.Given as goal
+use Rattle.inspect.proofs.value.Shown.+array_value_values_variant.Given as goal
 
 abbrev pub decreases-array : goal.decreases-array
 decreases-array l = 2 * l.levels + 1
