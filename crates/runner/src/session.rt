@@ -123,20 +123,18 @@ impl Session {
             self.tally.note(call, &Answer::Done);
             return Ok(());
         }
-        let Some(mut lives) = self.lives.take() else {
+        let Some(lives) = &mut self.lives else {
             return Err(Trouble::NoBus);
         };
-        let came = match perform(heap, &mut lives, call) {
-            Ok(came) => came,
-            Err(Unmade::NotYet) => return Err(Trouble::NotYet(name_of(call))),
-            Err(Unmade::OutOfMemory) => return Err(Trouble::OutOfMemory),
-        };
+        let came = perform(heap, lives, call).map_err(|unmade| match unmade {
+            Unmade::NotYet => Trouble::NotYet(name_of(call)),
+            Unmade::OutOfMemory => Trouble::OutOfMemory,
+        })?;
         if let (Call::Line { connection, .. }, Answer::Wrote(_)) = (call, &came) {
             if lives.has_begun(*connection) {
                 self.tally.finished = self.tally.finished.saturating_add(1);
             }
         }
-        self.lives = Some(lives);
         self.tally.note(call, &came);
         if let Some(form) = call.form() {
             self.waiting = Some(Waiting { form, came });
@@ -145,10 +143,7 @@ impl Session {
     }
 
     fn judge(&mut self, heap: Global, text: &[u8]) -> Result<Option<Disagreement>, Trouble> {
-        let Some(waiting) = self.waiting.take() else {
-            return Err(Trouble::NoCall);
-        };
-        let Waiting { form, came } = waiting;
+        let Waiting { form, came } = self.waiting.take().ok_or(Trouble::NoCall)?;
         let expected = read_answer(heap, form, text)?;
         if agrees(&expected, &came) {
             self.tally.agreed = self.tally.agreed.saturating_add(1);
