@@ -69,11 +69,15 @@ def main() -> int:
 def stale_edits(root: pathlib.Path) -> list:
     wrong = []
     for edit in sorted(root.glob("*/must-fail/*.edit")):
-        words = dict(line.split(": ", 1) for line in edit.read_text().splitlines())
-        source = edit.parent.parent / words["file"]
-        found = source.read_text().count(words["old"]) if source.exists() else 0
-        if found != 1:
-            wrong.append(f"{edit.relative_to(root.parent)}: what it replaces stands {found} times in {words['file']}")
+        source = None
+        for line in edit.read_text().splitlines():
+            word, text = line.split(": ", 1)
+            if word == "file":
+                source = edit.parent.parent / text
+            elif word == "old":
+                found = source.read_text().count(text) if source and source.exists() else 0
+                if found != 1:
+                    wrong.append(f"{edit.relative_to(root.parent)}: '{text}' stands {found} times in its file")
     return wrong
 
 
