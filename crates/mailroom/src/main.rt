@@ -5,7 +5,7 @@ mod script;
 
 use anyhow::anyhow;
 use hex_digits::pair;
-use mailbox::{MailboxSet, Refusal};
+use mailbox::MailboxSet;
 use roll::Roll;
 use script::{Line, Wrong, read};
 use shelf::Shelf;
@@ -72,29 +72,14 @@ fn in_hex(heap: Global, bytes: &[u8]) -> Result<String, AllocError> {
     Ok(text)
 }
 
-fn name_of(refusal: Refusal) -> &'static str {
-    match refusal {
-        Refusal::NoMailbox => "no mailbox",
-        Refusal::BadLength => "bad length",
-        Refusal::Full => "full",
-        Refusal::ShortBuffer => "short buffer",
-    }
-}
-
 // What came of a step that is not `limit`, as it is printed.
 fn told(heap: Global, line: &Line, outcome: Outcome, taken: &[u8]) -> Result<String, AllocError> {
     let hex = in_hex(heap, taken)?;
     match (line, outcome) {
         (Line::Put(c, _), Outcome::Put(Ok(()))) => format!(in heap; "put {c}: ok"),
-        (Line::Put(c, _), Outcome::Put(Err(refusal))) => format!(in heap;
-            "put {c}: {}",
-            name_of(refusal)
-        ),
+        (Line::Put(c, _), Outcome::Put(Err(refusal))) => format!(in heap; "put {c}: {refusal}"),
         (Line::Take(c, _), Outcome::Taken(Ok(n))) => format!(in heap; "take {c}: {n} {hex}"),
-        (Line::Take(c, _), Outcome::Taken(Err(refusal))) => format!(in heap;
-            "take {c}: {}",
-            name_of(refusal)
-        ),
+        (Line::Take(c, _), Outcome::Taken(Err(refusal))) => format!(in heap; "take {c}: {refusal}"),
         (Line::Count(c), Outcome::Counted(n)) => format!(in heap; "count {c}: {n}"),
         (Line::Clear(c), _) => format!(in heap; "clear {c}"),
         _ => String::from_str(heap, "?"),
