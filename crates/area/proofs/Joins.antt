@@ -1,7 +1,19 @@
--- What is written one after the other.
-use Rattle.std.proofs.Common.{◌≡◌, ℕ, ◌+◌, ◌≤◌, List, ◌++◌, length, take, drop, sym, ap, ◌∙◌, ap₂, append_assoc, arith}
+-- What a write answers, and what is written one after the other.
+use Rattle.std.proofs.Common.{◌≡◌, ℕ, ◌+◌, ◌<◌, ◌≤◌, List, ◌++◌, length, take, drop, if◌then◌else◌, Some, None, sym, ap, ◌∙◌, ap₂, append_assoc, arith}
 use Rattle.std.proofs.lemmas.List.{drop_at, drop-drop, length-append, length-take-le, take_at}
-use Rattle.area.specs.Writes.{written}
+use Rattle.std.proofs.lemmas.Bool.Decides.{nat_tests}
+use Rattle.area.specs.Writes.{fits, written}
+
+-- an answer of `store`, and the area after it
+module _ (area bytes : List ℕ) (at : ℕ) where
+  pub stored : (end : ℕ) → (if fits area at bytes then Some (at + length bytes) else None) ≡ Some end → (end ≡ at + length bytes) × (end ≤ length area) × ((if fits area at bytes then written area at bytes else area) ≡ written area at bytes)
+  stored end e = grind (arith, nat_tests)
+
+  pub not_stored : (if fits area at bytes then Some (at + length bytes) else None) ≡ None → (length area < at + length bytes) × ((if fits area at bytes then written area at bytes else area) ≡ area)
+  not_stored e = grind (arith, nat_tests)
+
+pub written_front : (area bytes : List ℕ) → written area 0 bytes ≡ bytes ++ drop (length bytes) area
+written_front area bytes = ap (λ (n : ℕ). bytes ++ drop n area) (omega arith)
 
 -- one write behind another
 pub written_twice : (area xs ys : List ℕ) (at : ℕ) → at ≤ length area → written (written area at xs) (at + length xs) ys ≡ written area at (xs ++ ys)

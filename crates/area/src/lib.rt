@@ -21,9 +21,5 @@ pub fn store(area: &mut [u8], at: usize, bytes: &[u8]) -> Option<usize>
 pub fn front(area: &[u8], end: usize) -> &[u8]
     ensures { result.now ≡ take end area.now }
 {
-    if end <= area.len() {
-        &area[0..end]
-    } else {
-        area
-    }
+    &area[..end.min(area.len())]
 }

@@ -1,33 +1,19 @@
 -- For an implementation whose lists come from a function: what it owes, at c and elsewhere.
-use Rattle.std.proofs.Common.{◌≡◌, ℕ, ◌<◌, ◌≤◌, true, false, cond, leb, List, [], ◌∷◌, ◌++◌, length, drop, set, Ok, Err, Result, sym, ap, ◌∙◌, ⊎_elim, arith}
+use Rattle.std.proofs.Common.{◌≡◌, ℕ, ◌<◌, ◌≤◌, cond, leb, List, [], ◌∷◌, ◌++◌, length, drop, set, Ok, Err, Result, sym, ap, ◌∙◌, ⊎_elim, arith}
 use Rattle.std.proofs.lemmas.List.FromFn.{length-map-range_with_len, get_or-map-range_with_len, fill_by_all}
 use Rattle.std.proofs.lemmas.List.{get_or_past, get_or-set_same, get_or-set_other, length-set, set_past, set-get_or}
-use Rattle.std.proofs.lemmas.Bool.{cases_eq, le-leb, lt-leb, lt-ltb, le-ltb, cond-true, cond-false}
+use Rattle.std.proofs.lemmas.Bool.{cases_eq, le-leb, lt-leb, le-ltb, ne_eqb, cond-true, cond-false, or_from}
+use Rattle.connection.specs.declared.Connection.{Connection}
 use Rattle.mailbox.specs.declared.Refusal.{Refusal}
-use Rattle.mailbox.specs.declared.Refusal.TheVariants.{NoMailbox, BadLength, Full, ShortBuffer}
-use Rattle.mailbox.specs.Lists.{Lists, waiting, tabled, misfit, put_answer, added, put_after, take_answer, taken, take_after, take_buffer, clear_after}
+use Rattle.mailbox.specs.declared.Refusal.TheVariants.{Full, ShortBuffer}
+use Rattle.mailbox.specs.declared.message.Message.{Message}
+use Rattle.mailbox.specs.Lists.{Lists, waiting, tabled, put_answer, added, put_after, take_answer, taken, take_after, take_buffer, clear_after}
 
--- a refused put, by what refuses it
-module _ (bound : ℕ) (ls : Lists) (c : ℕ) (m : List ℕ) where
-  refused_so : (e : Refusal) → put_answer bound ls c m ≡ Err e → (Err e ≡ put_answer bound ls c m) × (ls ≡ put_after bound ls c m)
-  refused_so e a = (sym a, sym (ap (λ (r : Result (Unit {0}) Refusal). added r ls c m) a))
-
-  pub put_no_mailbox : 16 ≤ c → (Err NoMailbox ≡ put_answer bound ls c m) × (ls ≡ put_after bound ls c m)
-  put_no_mailbox h = refused_so NoMailbox (cond-true _ _ _ (lt-ltb 15 c h))
-
-  pub put_misfit : c < 16 → misfit m ≡ true → (Err BadLength ≡ put_answer bound ls c m) × (ls ≡ put_after bound ls c m)
-  put_misfit h bad = refused_so BadLength (cond-false _ _ _ (le-ltb 15 c (omega arith)) ∙ cond-true _ _ _ bad)
-
-  past_length : c < 16 → misfit m ≡ false → put_answer bound ls c m ≡ cond (leb bound (length (waiting ls c))) (Err Full) (Ok tt)
-  past_length h good = cond-false _ _ _ (le-ltb 15 c (omega arith)) ∙ cond-false _ _ _ good
-
-  pub put_full : c < 16 → misfit m ≡ false → bound ≤ length (waiting ls c) → (Err Full ≡ put_answer bound ls c m) × (ls ≡ put_after bound ls c m)
-  put_full h good full = refused_so Full (past_length h good ∙ cond-true _ _ _ (le-leb bound (length (waiting ls c)) full))
-
-  pub put_accepted : c < 16 → misfit m ≡ false → length (waiting ls c) < bound → (Ok tt ≡ put_answer bound ls c m) × (set ls c (waiting ls c ++ (m ∷ [])) ≡ put_after bound ls c m)
-  put_accepted h good free =
-      let a : put_answer bound ls c m ≡ Ok tt = past_length h good ∙ cond-false _ _ _ (lt-leb bound (length (waiting ls c)) free) in
-      (sym a, sym (ap (λ (r : Result (Unit {0}) Refusal). added r ls c m) a))
+-- what fullness alone decides
+put_free : (bound : ℕ) (ls : Lists) (c : ℕ) (m : List ℕ) → c < 16 → 0 < length m → length m ≤ 1024 → put_answer bound ls c m ≡ cond (leb bound (length (waiting ls c))) (Err Full) (Ok tt)
+put_free bound ls c m h some short =
+    cond-false _ _ _ (le-ltb 15 c (omega arith))
+    ∙ cond-false _ _ _ (or_from _ _ (ne_eqb (length m) 0 (λ e. omega arith)) (le-ltb 1024 (length m) short))
 
 module _ (f : ℕ → List (List ℕ)) where
   pub tabled_length : length (tabled f) ≡ 16
@@ -51,40 +37,77 @@ module _ (f : ℕ → List (List ℕ)) where
       (λ ne. get_or-set_other (tabled f) c k x [] ne ∙ tabled_at k hk ∙ sym (other k hk ne))
       (cases_eq k c)))
 
-  -- put: one more
-  pub put_done : (g : ℕ → List (List ℕ)) (bound c : ℕ) (m : List ℕ) → c < 16 → misfit m ≡ false → length (f c) < bound → g c ≡ f c ++ (m ∷ []) → ((k : ℕ) → k < 16 → (k ≡ c → ⊥) → g k ≡ f k) → (Ok tt ≡ put_answer bound (tabled f) c m) × (tabled g ≡ put_after bound (tabled f) c m)
-  put_done g bound c m h good free here other =
-      let e = tabled_at c h in
-      let p = put_accepted bound (tabled f) c m h good (rw e free) in
-      (p.0, tabled_set g c (waiting (tabled f) c ++ (m ∷ [])) h (here ∙ ap (λ (w : List (List ℕ)). w ++ (m ∷ [])) (sym e)) other ∙ p.1)
-
-  -- take: nothing waits
-  pub take_none : (c : ℕ) (b : List ℕ) → waiting (tabled f) c ≡ [] → (Ok 0 ≡ take_answer (waiting (tabled f) c) (length b)) × (tabled f ≡ take_after (tabled f) c (length b)) × (b ≡ take_buffer (waiting (tabled f) c) b)
-  take_none c b e = (
+  -- take, where nothing waits
+  take_nothing : (c : ℕ) (b : List ℕ) → waiting (tabled f) c ≡ [] → (Ok 0 ≡ take_answer (waiting (tabled f) c) (length b)) × (tabled f ≡ take_after (tabled f) c (length b)) × (b ≡ take_buffer (waiting (tabled f) c) b)
+  take_nothing c b e = (
     ap (λ (w : List (List ℕ)). take_answer w (length b)) (sym e),
     sym (ap (λ (w : List (List ℕ)). set (tabled f) c (taken w (length b))) e ∙ ap (set (tabled f) c) (sym e) ∙ set-get_or (tabled f) c []),
     ap (λ (w : List (List ℕ)). take_buffer w b) (sym e),
   )
 
-  -- take: the buffer is too short
-  pub take_short : (c : ℕ) (b m : List ℕ) (ms : List (List ℕ)) → c < 16 → f c ≡ m ∷ ms → length b < length m → (Err ShortBuffer ≡ take_answer (waiting (tabled f) c) (length b)) × (tabled f ≡ take_after (tabled f) c (length b)) × (b ≡ take_buffer (waiting (tabled f) c) b)
-  take_short c b m ms h is lt =
-      let e = tabled_at c h ∙ is in
-      let t = lt-leb (length m) (length b) lt in (
-        sym (ap (λ (w : List (List ℕ)). take_answer w (length b)) e ∙ cond-false _ (Ok (length m)) (Err ShortBuffer) t),
-        sym (ap (λ (w : List (List ℕ)). set (tabled f) c (taken w (length b))) e ∙ ap (set (tabled f) c) (cond-false _ ms (m ∷ ms) t ∙ sym e) ∙ set-get_or (tabled f) c []),
-        sym (ap (λ (w : List (List ℕ)). take_buffer w b) e ∙ cond-false _ (m ++ drop (length m) b) b t),
-      )
-
-  -- take: the oldest goes
-  pub take_done : (g : ℕ → List (List ℕ)) (c : ℕ) (b m : List ℕ) (ms : List (List ℕ)) → c < 16 → f c ≡ m ∷ ms → length m ≤ length b → g c ≡ ms → ((k : ℕ) → k < 16 → (k ≡ c → ⊥) → g k ≡ f k) → (Ok (length m) ≡ take_answer (waiting (tabled f) c) (length b)) × (tabled g ≡ take_after (tabled f) c (length b)) × (m ++ drop (length m) b ≡ take_buffer (waiting (tabled f) c) b)
-  take_done g c b m ms h is le here other =
-      let e = tabled_at c h ∙ is in
-      let t = le-leb (length m) (length b) le in (
-        sym (ap (λ (w : List (List ℕ)). take_answer w (length b)) e ∙ cond-true _ (Ok (length m)) (Err ShortBuffer) t),
-        tabled_set g c (taken (waiting (tabled f) c) (length b)) h (here ∙ sym (ap (λ (w : List (List ℕ)). taken w (length b)) e ∙ cond-true _ ms (m ∷ ms) t)) other,
-        sym (ap (λ (w : List (List ℕ)). take_buffer w b) e ∙ cond-true _ (m ++ drop (length m) b) b t),
-      )
+  -- no such connection
+  pub take_past : (c : ℕ) (b : List ℕ) → 16 ≤ c → (Ok 0 ≡ take_answer (waiting (tabled f) c) (length b)) × (tabled f ≡ take_after (tabled f) c (length b)) × (b ≡ take_buffer (waiting (tabled f) c) b)
+  take_past c b h = take_nothing c b (tabled_past c h)
 
   pub clear_past : (c : ℕ) → 16 ≤ c → tabled f ≡ clear_after (tabled f) c
   clear_past c h = sym (set_past (tabled f) c [] (omega (arith, tabled_length)))
+
+  -- the connection of a number
+  module _ (k : Connection) (c : ℕ) (is : k.number ≡ c) where
+    pub waiting_is : waiting (tabled f) c ≡ f k.number
+    waiting_is = ap (waiting (tabled f)) (sym is) ∙ tabled_at k.number k.within
+
+    -- one that differs at c alone
+    pub set_is : (g : ℕ → List (List ℕ)) (x : List (List ℕ)) → g k.number ≡ x → ((d : ℕ) → d < 16 → (d ≡ k.number → ⊥) → g d ≡ f d) → tabled g ≡ set (tabled f) c x
+    set_is g x here other = tabled_set g k.number x k.within here other ∙ ap (λ (d : ℕ). set (tabled f) d x) is
+
+    -- clear, where nothing waits
+    pub clear_none : f k.number ≡ [] → tabled f ≡ clear_after (tabled f) c
+    clear_none none = sym (ap (set (tabled f) c) (sym (waiting_is ∙ none)) ∙ set-get_or (tabled f) c [])
+
+    -- put
+    module _ (bound : ℕ) (w : Message) (m : List ℕ) (e : w.bytes.now ≡ m) where
+      free : put_answer bound (tabled f) c m ≡ cond (leb bound (length (f k.number))) (Err Full) (Ok tt)
+      free =
+          put_free bound (tabled f) c m (omega (arith, k.within)) (rw (← e) w.some) (rw (← e) w.short)
+          ∙ ap (λ (xs : List (List ℕ)). cond (leb bound (length xs)) (Err Full) (Ok tt)) waiting_is
+
+      pub put_full : bound ≤ length (f k.number) → (Err Full ≡ put_answer bound (tabled f) c m) × (tabled f ≡ put_after bound (tabled f) c m)
+      put_full full =
+          let a : put_answer bound (tabled f) c m ≡ Err Full = free ∙ cond-true _ _ _ (le-leb bound (length (f k.number)) full) in
+          (sym a, sym (ap (λ (r : Result (Unit {0}) Refusal). added r (tabled f) c m) a))
+
+      -- one more
+      pub put_done : (g : ℕ → List (List ℕ)) → length (f k.number) < bound → g k.number ≡ f k.number ++ (m ∷ []) → ((d : ℕ) → d < 16 → (d ≡ k.number → ⊥) → g d ≡ f d) → (Ok tt ≡ put_answer bound (tabled f) c m) × (tabled g ≡ put_after bound (tabled f) c m)
+      put_done g room here other =
+          let a : put_answer bound (tabled f) c m ≡ Ok tt = free ∙ cond-false _ _ _ (lt-leb bound (length (f k.number)) room) in (
+            sym a,
+            set_is g (waiting (tabled f) c ++ (m ∷ [])) (here ∙ ap (λ (xs : List (List ℕ)). xs ++ (m ∷ [])) (sym waiting_is)) other
+                ∙ sym (ap (λ (r : Result (Unit {0}) Refusal). added r (tabled f) c m) a),
+          )
+
+    -- take
+    module _ (b : List ℕ) where
+      pub take_none : f k.number ≡ [] → (Ok 0 ≡ take_answer (waiting (tabled f) c) (length b)) × (tabled f ≡ take_after (tabled f) c (length b)) × (b ≡ take_buffer (waiting (tabled f) c) b)
+      take_none none = take_nothing c b (waiting_is ∙ none)
+
+      -- the buffer is too short
+      pub take_short : (m : List ℕ) (ms : List (List ℕ)) → f k.number ≡ m ∷ ms → length b < length m → (Err ShortBuffer ≡ take_answer (waiting (tabled f) c) (length b)) × (tabled f ≡ take_after (tabled f) c (length b)) × (b ≡ take_buffer (waiting (tabled f) c) b)
+      take_short m ms first lt =
+          let e = waiting_is ∙ first in
+          let t = lt-leb (length m) (length b) lt in (
+            sym (ap (λ (w : List (List ℕ)). take_answer w (length b)) e ∙ cond-false _ (Ok (length m)) (Err ShortBuffer) t),
+            sym (ap (λ (w : List (List ℕ)). set (tabled f) c (taken w (length b))) e ∙ ap (set (tabled f) c) (cond-false _ ms (m ∷ ms) t ∙ sym e) ∙ set-get_or (tabled f) c []),
+            sym (ap (λ (w : List (List ℕ)). take_buffer w b) e ∙ cond-false _ (m ++ drop (length m) b) b t),
+          )
+
+      -- the oldest goes
+      pub take_done : (g : ℕ → List (List ℕ)) (m : List ℕ) → f k.number ≡ m ∷ g k.number → length m ≤ length b → ((d : ℕ) → d < 16 → (d ≡ k.number → ⊥) → g d ≡ f d) → (Ok (length m) ≡ take_answer (waiting (tabled f) c) (length b)) × (tabled g ≡ take_after (tabled f) c (length b)) × (m ++ drop (length m) b ≡ take_buffer (waiting (tabled f) c) b)
+      take_done g m first le other =
+          let ms = g k.number in
+          let e = waiting_is ∙ first in
+          let t = le-leb (length m) (length b) le in (
+            sym (ap (λ (w : List (List ℕ)). take_answer w (length b)) e ∙ cond-true _ (Ok (length m)) (Err ShortBuffer) t),
+            set_is g (taken (waiting (tabled f) c) (length b)) (sym (ap (λ (w : List (List ℕ)). taken w (length b)) e ∙ cond-true _ ms (m ∷ ms) t)) other,
+            sym (ap (λ (w : List (List ℕ)). take_buffer w b) e ∙ cond-true _ (m ++ drop (length m) b) b t),
+          )

@@ -12,11 +12,15 @@ Lists = List (List (List ℕ))
 abbrev pub waiting : Lists → ℕ → List (List ℕ)
 waiting ls c = slice_index_or ls c []
 
+-- how long a message may be
+abbrev pub IsSize : ℕ → Type 0
+IsSize n = (0 < n) × (n ≤ 1024)
+
 -- What holds of every mailbox set, whatever it was asked to do.
 pub record Laws {S : Type 0} (lists : S → Lists) (bound : S → ℕ) : Type 0 where
   pub sixteen : (s : S) → length (lists s) ≡ 16
   pub within : (s : S) (c : ℕ) → length (waiting (lists s) c) ≤ bound s
-  pub sized : (s : S) (c p : ℕ) → p < length (waiting (lists s) c) → (0 < length (slice_index_or (waiting (lists s) c) p [])) × (length (slice_index_or (waiting (lists s) c) p []) ≤ 1024)
+  pub sized : (s : S) (c p : ℕ) → p < length (waiting (lists s) c) → IsSize (length (slice_index_or (waiting (lists s) c) p []))
 
 -- sixteen lists from a function of the connection
 unfoldable pub tabled : (ℕ → List (List ℕ)) → Lists

@@ -1,14 +1,19 @@
 // Sixteen mailboxes behind one trait.
 #![tactic(auto)]
 
-ghost use Rattle.std.specs.Prelude.{◌≡◌, ℕ, length};
+mod message;
+
+ghost use Rattle.std.specs.Prelude.{◌≡◌, ℕ, ◌/◌, min, Some, length};
 ghost use Rattle.mailbox.specs.Lists.{Lists, Laws, waiting, put_answer, put_after, take_answer, take_after, take_buffer, clear_after};
+ghost use Rattle.mailbox.specs.Refusals.{words};
+ghost use Rattle.mailbox.specs.declared.Refusal.TheVariants.{NoMailbox};
 
-// The connections that have a mailbox.
-pub const CONNECTIONS: u8 = 16;
+use connection::NoConnection;
+pub use message::{LONGEST, Message};
+use std::fmt;
 
-// The longest message that a mailbox takes.
-pub const LONGEST: usize = 1024;
+// The most messages that may wait for one connection.
+pub const PLACES: usize = 16;
 
 // Why a message is not put or not taken.
 #[derive(Clone, Copy, PartialEq, Eq, Debug)]
@@ -21,6 +26,34 @@ pub enum Refusal {
     Full,
     // the buffer is shorter than the oldest message
     ShortBuffer,
+}
+
+impl From<NoConnection> for Refusal {
+    ghost from_gives = { λ _ r. r ≡ NoMailbox };
+
+    fn from(_none: NoConnection) -> Self {
+        Self::NoMailbox
+    }
+}
+
+impl fmt::Display for Refusal {
+    ghost output = { λ r. Some (words r) };
+
+    fn fmt<W: fmt::Write>(&self, f: &mut fmt::Formatter<W>) -> fmt::Result {
+        f.write_str(match self {
+            Refusal::NoMailbox => "no mailbox",
+            Refusal::BadLength => "bad length",
+            Refusal::Full => "full",
+            Refusal::ShortBuffer => "short buffer",
+        })
+    }
+}
+
+// How many messages may wait for one connection, in an area of so many bytes, where one place for each takes so many.
+pub fn limit_for(bytes: usize, place: usize) -> usize
+    ensures { result ≡ min 16 (bytes / place) }
+{
+    bytes.checked_div(place).unwrap_or(0).min(PLACES)
 }
 
 // Messages that wait for sixteen connections, each in the order in which it came.

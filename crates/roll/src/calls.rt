@@ -4,8 +4,10 @@ ghost use Rattle.roll_records.proofs.Rows.{roll_laws};
 ghost use Rattle.roll.specs.Meaning.{lists_of};
 
 use super::Roll;
-use super::layout::{copy_message, limit_for};
-use mailbox::{CONNECTIONS, LONGEST, MailboxSet, Refusal};
+use super::layout::{PLACE, message_of};
+use area::store;
+use connection::{CONNECTIONS, Connection};
+use mailbox::{MailboxSet, Message, Refusal, limit_for};
 
 impl Roll {
     // An empty roll over an area, whatever that holds.
@@ -13,13 +15,13 @@ impl Roll {
         ensures limit { result.limit ≡ min 16 (vec_len area / 16432) }
         ensures empty { lists_of result ≡ replicate 16 [] }
     {
-        let limit = limit_for(area.len());
+        let limit = limit_for(area.len(), PLACE);
         Roll {
             area,
             limit,
             used: 0,
             records: 0,
-            counts: [0; 16],
+            counts: [0; CONNECTIONS],
         }
     }
 }
@@ -36,17 +38,16 @@ impl MailboxSet for Roll {
     }
 
     fn count(&self, c: u8) -> usize {
-        usize::from(self.held(c))
+        match Connection::try_from(c) {
+            Ok(c) => self.count_of(c),
+            Err(_) => 0,
+        }
     }
 
     fn put(&mut self, c: u8, message: &[u8]) -> Result<(), Refusal> {
-        if c >= CONNECTIONS {
-            return Err(Refusal::NoMailbox);
-        }
-        if message.is_empty() || message.len() > LONGEST {
-            return Err(Refusal::BadLength);
-        }
-        if !self.has_room(c) {
+        let c = Connection::try_from(c)?;
+        let message = Message::try_from(message)?;
+        if self.is_full(c) {
             return Err(Refusal::Full);
         }
         self.append(c, message);
@@ -54,18 +55,24 @@ impl MailboxSet for Roll {
     }
 
     fn take(&mut self, c: u8, buffer: &mut [u8]) -> Result<usize, Refusal> {
-        if !self.has_any(c) {
+        let Ok(c) = Connection::try_from(c) else {
             return Ok(0);
-        }
-        let (at, size) = self.oldest(c);
-        copy_message(&self.area, at, size, buffer)?;
-        self.close_up(c, at, size);
+        };
+        let Some(span) = self.oldest(c) else {
+            return Ok(0);
+        };
+        let Some(size) = store(buffer, 0, message_of(&self.area, span)) else {
+            return Err(Refusal::ShortBuffer);
+        };
+        self.close_up(c, span);
         Ok(size)
     }
 
     fn clear(&mut self, c: u8) {
-        while self.has_any(c) {
-            self.drop_oldest(c);
+        if let Ok(c) = Connection::try_from(c) {
+            while let Some(span) = self.oldest(c) {
+                self.close_up(c, span);
+            }
         }
     }
 }

@@ -1,38 +1,35 @@
 // How a record lies in an area: its connection, the length of its message in two bytes, the low one first, and the message.
-ghost use Rattle.std.specs.Prelude.{◌≡◌, ◌+◌, ◌/◌, ◌<◌, ◌≤◌, min, ◌++◌, length, take, drop, MatchResult};
+ghost use Rattle.std.specs.Prelude.{◌≡◌, ◌+◌, ◌≤◌, [], ◌++◌, length, take, drop, MatchOption};
 ghost use Rattle.area.specs.Writes.{written};
-ghost use Rattle.roll_records.specs.Records.{head, encode, length_at, decode, before, Laid};
+ghost use Rattle.roll_records.specs.Records.{head, encode, length_at, decode, messages, Laid, First};
 
 use area::store;
-use mailbox::{CONNECTIONS, LONGEST, Refusal};
+use connection::{CONNECTIONS, Connection};
+use mailbox::{LONGEST, Message};
 
 // What stands before a message.
 pub(super) const HEAD: usize = 3;
 
 // What a longest message for each connection takes.
-const ROUND: usize = CONNECTIONS as usize * (HEAD + LONGEST);
+pub(super) const PLACE: usize = CONNECTIONS * (HEAD + LONGEST);
 
-// The largest limit.
-const MOST: usize = 16;
-
-// How many messages may wait for one connection, in an area of so many bytes.
-pub(super) fn limit_for(bytes: usize) -> usize
-    ensures { result ≡ min 16 (bytes / 16432) }
-{
-    MOST.min(bytes / ROUND)
+// Where a record begins, and how long its message is.
+#[derive(Clone, Copy, PartialEq, Eq, Debug)]
+pub(super) struct Span {
+    pub(super) at: usize,
+    pub(super) size: usize,
 }
 
 // What stands before a message for c.
-fn head_for(c: u8, message: &[u8]) -> [u8; HEAD]
-    requires { length message.now ≤ 1024 }
-    ensures { result ≡ head c message.now }
+fn head_for(c: Connection, message: Message<'_>) -> [u8; HEAD]
+    ensures { result ≡ head c.number message.entry.bytes.now }
 {
-    let [low, high] = (message.len() as u16).to_le_bytes();
-    [c, low, high]
+    let [low, high] = (message.bytes.len() as u16).to_le_bytes();
+    [c.number, low, high]
 }
 
 // How long the message is whose record begins at a place.
-pub(super) fn size_at(area: &[u8], at: usize) -> usize
+fn size_at(area: &[u8], at: usize) -> usize
     requires { at + 3 ≤ length area.now }
     ensures { result ≡ length_at area.now at }
 {
@@ -40,45 +37,36 @@ pub(super) fn size_at(area: &[u8], at: usize) -> usize
 }
 
 // Writes a record at a place, and answers where it ends.
-pub(super) fn write_record(area: &mut [u8], at: usize, c: u8, message: &[u8]) -> usize
-    requires room { at + 3 + length message.now ≤ length area.old }
-    requires short { length message.now ≤ 1024 }
-    ensures end { result ≡ at + (3 + length message.now) }
-    ensures after { area.new ≡ written area.old at (head c message.now ++ message.now) }
+pub(super) fn write_record(area: &mut [u8], at: usize, c: Connection, message: Message<'_>) -> usize
+    requires { at + 3 + length message.bytes.now ≤ length area.old }
+    ensures end { result ≡ at + (3 + length message.entry.bytes.now) }
+    ensures after { area.new ≡ written area.old at (head c.number message.entry.bytes.now ++ message.entry.bytes.now) }
 {
     let from = store(area, at, &head_for(c, message)).unwrap();
-    store(area, from, message).unwrap()
+    store(area, from, message.bytes).unwrap()
 }
 
-// Copies the message of the record at a place to the buffer's front, unless the buffer is shorter.
-pub(super) fn copy_message(
-    area: &[u8],
-    at: usize,
-    size: usize,
-    buffer: &mut [u8],
-) -> Result<(), Refusal>
-    requires { at + 3 + size ≤ length area.now }
-    ensures { MatchResult result (λ _. (size ≤ length buffer.old) × (buffer.new ≡ take size (drop (at + 3) area.now) ++ drop size buffer.old)) (λ e. (e ≡ Refusal.ShortBuffer) × (length buffer.old < size) × (buffer.new ≡ buffer.old)) }
+// The message of a record.
+pub(super) fn message_of(area: &[u8], span: Span) -> &[u8]
+    requires { span.at + 3 + span.size ≤ length area.now }
+    ensures { result.now ≡ take span.size (drop (span.at + 3) area.now) }
 {
-    if size > buffer.len() {
-        return Err(Refusal::ShortBuffer);
-    }
-    let from = at + HEAD;
-    buffer[0..size].copy_from_slice(&area[from..from + size]);
-    Ok(())
+    let from = span.at + HEAD;
+    &area[from..from + span.size]
 }
 
-// Where the first of so many records begins that is one of c; where the row ends, if there is none.
-pub(super) fn find(area: &[u8], records: usize, c: u8) -> usize
+// The first of so many records that is one of c.
+pub(super) fn find(area: &[u8], records: usize, c: Connection) -> Option<Span>
     requires { Laid records area.now }
-    ensures { result ≡ length (encode (before c (decode records area.now))) }
+    ensures { MatchOption result (messages c.number (decode records area.now) ≡ []) (λ r. First area.now records (length (encode (decode records area.now))) c.number r.at r.size) }
 {
     let mut at = 0;
     for _k in 0..records {
-        if area[at] == c {
-            return at;
+        let size = size_at(area, at);
+        if area[at] == c.number {
+            return Some(Span { at, size });
         }
-        at += HEAD + size_at(area, at);
+        at += HEAD + size;
     }
-    at
+    None
 }

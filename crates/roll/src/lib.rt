@@ -1,12 +1,15 @@
 // A mailbox set that keeps all its messages in one row of records.
 #![tactic(auto)]
 
-ghost use Rattle.std.specs.Prelude.{◌≡◌, ℕ, ◌*◌, ◌≤◌, length, slice_index};
+ghost use Rattle.std.specs.Prelude.{◌≡◌, ◌*◌, ◌≤◌, length};
+ghost use Rattle.std.specs.List.{All};
 ghost use Rattle.roll_records.specs.Records.{encode, decode, Laid, Sound, Tallied};
 
 mod calls;
 mod layout;
 mod steps;
+
+use connection::CONNECTIONS;
 
 // A row of records at the front of an area, in the order in which they were put.
 #[derive(Drop)]
@@ -18,7 +21,7 @@ pub struct Roll {
     used: usize,
     records: usize,
     // how many of the records each connection has
-    counts: [u8; 16],
+    counts: [u8; CONNECTIONS],
     ghost most: { limit ≤ 16 },
     ghost room: { limit * 16432 ≤ length area.items },
     ghost laid: { Laid records area.items },
@@ -26,5 +29,5 @@ pub struct Roll {
     ghost sound: { Sound (decode records area.items) },
     ghost sixteen: { length counts ≡ 16 },
     ghost tallied: { Tallied counts (decode records area.items) },
-    ghost fills: { (c : ℕ) → slice_index counts c ≤ limit },
+    ghost fills: { All (λ n. n ≤ limit) counts },
 }

@@ -1,81 +1,59 @@
 // The steps that the calls take.
-ghost use Rattle.std.specs.Prelude.{◌≡◌, ◌+◌, ◌<◌, ◌≤◌, [], ◌∷◌, ◌++◌, length, nat_lt, slice_index};
+ghost use Rattle.std.specs.Prelude.{◌≡◌, ◌<◌, [], ◌∷◌, ◌++◌, MatchOption, nat_le, slice_index};
 ghost use Rattle.roll_records.specs.Records.{record_of, without, First};
-ghost use Rattle.roll.specs.Meaning.{row};
+ghost use Rattle.roll.specs.Meaning.{row, waits};
 
 use super::Roll;
-use super::layout::{HEAD, find, size_at, write_record};
+use super::layout::{HEAD, Span, find, write_record};
+use connection::Connection;
+use mailbox::Message;
 
 impl Roll {
-    // How many records c has; none where there is no such connection.
-    pub(super) fn held(&self, c: u8) -> u8
-        ensures { result ≡ slice_index self.now.counts c }
+    // How many messages wait for c.
+    pub(super) fn count_of(&self, c: Connection) -> usize
+        ensures { result ≡ slice_index self.now.counts c.number }
     {
-        match self.counts.get(usize::from(c)) {
-            Some(n) => *n,
-            None => 0,
-        }
+        usize::from(self.counts[c.index()])
     }
 
-    // Whether any message waits for c.
-    pub(super) fn has_any(&self, c: u8) -> bool
-        ensures { result ≡ nat_lt 0 (slice_index self.now.counts c) }
+    // Whether c has as many messages as may wait.
+    pub(super) fn is_full(&self, c: Connection) -> bool
+        ensures { result ≡ nat_le self.now.limit (slice_index self.now.counts c.number) }
     {
-        self.held(c) > 0
-    }
-
-    // Whether c may have one more.
-    pub(super) fn has_room(&self, c: u8) -> bool
-        ensures { result ≡ nat_lt (slice_index self.now.counts c) self.now.limit }
-    {
-        usize::from(self.held(c)) < self.limit
+        self.count_of(c) >= self.limit
     }
 
     // Writes a record behind the last.
-    pub(super) fn append(&mut self, c: u8, message: &[u8])
-        requires known { c < 16 }
-        requires some { 0 < length message.now }
-        requires short { length message.now ≤ 1024 }
-        requires free { slice_index self.old.counts c < self.old.limit }
-        ensures rows { row self.new ≡ row self.old ++ (record_of c message.now ∷ []) }
+    pub(super) fn append(&mut self, c: Connection, message: Message<'_>)
+        requires { slice_index self.old.counts c.number < self.old.limit }
+        ensures rows { row self.new ≡ row self.old ++ (record_of c.number message.entry.bytes.now ∷ []) }
         ensures limit { self.new.limit ≡ self.old.limit }
     {
         self.used = write_record(&mut self.area, self.used, c, message);
         self.records += 1;
-        self.counts[usize::from(c)] += 1;
+        self.counts[c.index()] += 1;
     }
 
-    // Where the oldest record of c begins, and how long its message is.
-    pub(super) fn oldest(&self, c: u8) -> (usize, usize)
-        requires { 0 < slice_index self.now.counts c }
-        ensures { First self.now.area.items self.now.records self.now.used c result.0 result.1 }
+    // The oldest record of c; None, without a search, where nothing waits.
+    pub(super) fn oldest(&self, c: Connection) -> Option<Span>
+        ensures { MatchOption result (waits self.now c.number ≡ []) (λ r. First self.now.area.items self.now.records self.now.used c.number r.at r.size) }
     {
-        let at = find(&self.area, self.records, c);
-        (at, size_at(&self.area, at))
+        if self.count_of(c) == 0 {
+            return None;
+        }
+        find(&self.area, self.records, c)
     }
 
     // Moves all that lies behind the first record of c forward over it.
-    pub(super) fn close_up(&mut self, c: u8, at: usize, size: usize)
-        requires { First self.old.area.items self.old.records self.old.used c at size }
-        ensures rows { row self.new ≡ without c (row self.old) }
+    pub(super) fn close_up(&mut self, c: Connection, span: Span)
+        requires { First self.old.area.items self.old.records self.old.used c.number span.at span.size }
+        ensures rows { row self.new ≡ without c.number (row self.old) }
         ensures limit { self.new.limit ≡ self.old.limit }
-        ensures fewer { slice_index self.new.counts c + 1 ≡ slice_index self.old.counts c }
     {
-        let next = at + HEAD + size;
-        self.area.copy_within(next..self.used, at);
-        self.used -= HEAD + size;
+        let next = span.at + HEAD + span.size;
+        self.area.copy_within(next..self.used, span.at);
+        self.used -= HEAD + span.size;
         self.records -= 1;
-        self.counts[usize::from(c)] -= 1;
-    }
-
-    // Takes the oldest record of c out of the row.
-    pub(super) fn drop_oldest(&mut self, c: u8)
-        requires { 0 < slice_index self.old.counts c }
-        ensures rows { row self.new ≡ without c (row self.old) }
-        ensures limit { self.new.limit ≡ self.old.limit }
-        ensures fewer { slice_index self.new.counts c + 1 ≡ slice_index self.old.counts c }
-    {
-        let (at, size) = self.oldest(c);
-        self.close_up(c, at, size);
+        self.counts[c.index()] -= 1;
     }
 }

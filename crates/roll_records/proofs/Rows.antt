@@ -1,10 +1,12 @@
 -- Laws of rows of records.
-use Rattle.std.proofs.Common.{◌≡◌, ℕ, zero, suc, ◌+◌, ◌-◌, ◌*◌, ◌/◌, ◌%◌, ◌<◌, ◌≤◌, true, false, cond, eqb, List, [], ◌∷◌, ◌++◌, length, get_or, take, drop, set, sym, refl, ap, ◌∙◌, ap₂, ⊎_elim, append_assoc, div-add-mod', arith}
+use Rattle.std.proofs.Common.{◌≡◌, ℕ, zero, suc, ◌+◌, ◌-◌, ◌*◌, ◌/◌, ◌%◌, ◌<◌, ◌≤◌, true, false, cond, eqb, List, [], ◌∷◌, ◌++◌, length, get_or, take, drop, set, sym, refl, ap, ◌∙◌, ap₂, subst, ⊎_elim, append_assoc, div-add-mod', arith}
 use lib.Seq.{paste}
-use Rattle.std.proofs.lemmas.List.{append-nil, drop_at, drop-drop, drop_more, get_or-drop, get_or_past, get_or-set_same, get_or-set_other, length-append, length-drop, length_push, take_at}
+use Rattle.std.proofs.lemmas.List.{append-nil, drop_all, drop_at, drop-drop, drop_more, get_or-drop, get_or_past, get_or-set_same, get_or-set_other, length-append, length-drop, length_push, take_at}
+use Rattle.std.specs.List.{All}
+use Rattle.std.proofs.lemmas.List.Elements.{All-get_or}
 use Rattle.std.proofs.lemmas.Bool.{cases_Bool, cases_eq, cases_lt, cond-true, cond-false, eqb-true, eq-eqb, ne_eqb}
 use Rattle.area.specs.Writes.{written}
-use Rattle.mailbox.specs.Lists.{Laws, waiting, tabled}
+use Rattle.mailbox.specs.Lists.{Laws, tabled}
 use Rattle.mailbox.proofs.Tables.{tabled_length, tabled_at, tabled_past}
 use Rattle.roll_records.specs.Records.{Record, record_of, head, encode, length_at, decode, messages, before, behind, without, Laid, Good, Sound, Tallied, First}
 
@@ -113,10 +115,6 @@ here area rs junk at k h e =
       cut = hd;
     }
 
--- the same in the row of an area
-pub here_in : (n : ℕ) (area : List ℕ) (at k : ℕ) → k < n → drop at area ≡ encode (drop k (decode n area)) ++ drop (length (encode (decode n area))) area → Here area (decode n area) (drop (length (encode (decode n area))) area) at k
-here_in n area at k h e = here area (decode n area) _ at k (omega (arith, decode_length n area)) e
-
 -- a step over a record of another, and the stop at one of c
 pub before_step : (c : ℕ) (r : Record) (rs : List Record) → (r.connection ≡ c → ⊥) → length (encode (before c (r ∷ rs))) ≡ 3 + length r.message + length (encode (before c rs))
 before_step c r rs ne = rw (ne_eqb r.connection c ne) (omega (arith, length-append r.message (encode (before c rs))))
@@ -195,42 +193,37 @@ tally (r ∷ rs) s =
     (λ k ne. ap length (cond-false (eqb c k) (r.message ∷ messages k rs) (messages k rs) (ne_eqb c k (λ e. ne (sym e))))) in
     omega arith
 
+-- no count is above the limit, behind the last one neither
+pub fills_at : (counts : List ℕ) (lim : ℕ) → All (λ n. n ≤ lim) counts → (d : ℕ) → get_or counts d 0 ≤ lim
+fills_at counts lim all d = ⊎_elim
+    (λ (h : d < length counts). All-get_or (λ n. n ≤ lim) counts d 0 h all)
+    (λ h. omega (arith, get_or_past counts d 0 h))
+    (cases_lt d (length counts))
+
 -- there is room for one more record where a connection may have one more
-pub room_for : (rs : List Record) (counts : List ℕ) (lim c : ℕ) → Sound rs → Tallied counts rs → ((d : ℕ) → get_or counts d 0 ≤ lim) → c < 16 → get_or counts c 0 < lim → length (encode rs) + 1027 ≤ lim * 16432
+pub room_for : (rs : List Record) (counts : List ℕ) (lim c : ℕ) → Sound rs → Tallied counts rs → All (λ n. n ≤ lim) counts → c < 16 → get_or counts c 0 < lim → length (encode rs) + 1027 ≤ lim * 16432
 room_for rs counts lim c s t all hc free =
     let one_more : ℕ → ℕ = λ d. length (messages d rs) + cond (eqb d c) 1 0 in
     let b = sum_bump 16 c (λ d. length (messages d rs)) one_more hc (ap (λ (n : ℕ). length (messages c rs) + n) (cond-true (eqb c c) 1 0 (eq-eqb c c refl))) (λ k ne. ap (λ (n : ℕ). length (messages k rs) + n) (cond-false (eqb k c) 1 0 (ne_eqb k c ne)) ∙ omega arith) in
     let l = sum_le 16 one_more (λ _. lim) (λ k h. ⊎_elim
     (λ (e : k ≡ c). omega (arith, t c, ap (λ (j : ℕ). length (messages j rs)) e, cond-true {A = ℕ} (eqb k c) 1 0 (eq-eqb k c e)))
-    (λ ne. omega (arith, t k, all k, cond-false {A = ℕ} (eqb k c) 1 0 (ne_eqb k c ne)))
+    (λ ne. omega (arith, t k, fills_at counts lim all k, cond-false {A = ℕ} (eqb k c) 1 0 (ne_eqb k c ne)))
     (cases_eq k c)) in
     omega (arith, tally rs s, encode_size rs s)
 
 -- and few records, in all
-pub few : (rs : List Record) (counts : List ℕ) (lim : ℕ) → Sound rs → Tallied counts rs → ((d : ℕ) → get_or counts d 0 ≤ lim) → length rs ≤ lim * 16
-few rs counts lim s t all = omega (arith, tally rs s, sum_le 16 (λ d. length (messages d rs)) (λ _. lim) (λ k h. omega (arith, t k, all k)))
-
--- the counts say how many wait
-pub counted : (counts : List ℕ) (rs : List Record) → length counts ≡ 16 → Tallied counts rs → (c : ℕ) → get_or counts c 0 ≡ length (waiting (tabled (λ k. messages k rs)) c)
-counted counts rs l t c =
-    let f : ℕ → List (List ℕ) = λ k. messages k rs in
-    ⊎_elim
-    (λ (h : c < 16). t c ∙ sym (ap length (tabled_at f c h)))
-    (λ h. get_or_past counts c 0 (omega arith) ∙ sym (ap length (tabled_past f c h)))
-    (cases_lt c 16)
-
-pub counted_below : (counts : List ℕ) (c : ℕ) → length counts ≡ 16 → 0 < get_or counts c 0 → c < 16
-counted_below counts c l some = ⊎_elim (λ (h : c < 16). h) (λ h. absurd (omega (arith, get_or_past counts c 0 (omega arith)))) (cases_lt c 16)
+pub few : (rs : List Record) (counts : List ℕ) (lim : ℕ) → Sound rs → Tallied counts rs → All (λ n. n ≤ lim) counts → length rs ≤ lim * 16
+few rs counts lim s t all = omega (arith, tally rs s, sum_le 16 (λ d. length (messages d rs)) (λ _. lim) (λ k h. omega (arith, t k, fills_at counts lim all k)))
 
 -- the laws, of anything that has such fields
-module _ {S : Type 0} (lim records : S → ℕ) (counts area : S → List ℕ) (sound : (s : S) → Sound (decode (records s) (area s))) (tallied : (s : S) → Tallied (counts s) (decode (records s) (area s))) (fills : (s : S) (c : ℕ) → get_or (counts s) c 0 ≤ lim s) where
+module _ {S : Type 0} (lim records : S → ℕ) (counts area : S → List ℕ) (sound : (s : S) → Sound (decode (records s) (area s))) (tallied : (s : S) → Tallied (counts s) (decode (records s) (area s))) (fills : (s : S) → All (λ n. n ≤ lim s) (counts s)) where
   pub roll_laws : Laws (λ s. tabled (λ c. messages c (decode (records s) (area s)))) lim
   roll_laws = record {
     sixteen = λ s. tabled_length (λ c. messages c (decode (records s) (area s)));
     within = λ s c.
         let f : ℕ → List (List ℕ) = λ k. messages k (decode (records s) (area s)) in
         ⊎_elim
-        (λ (h : c < 16). omega (arith, ap length (tabled_at f c h), tallied s c, fills s c))
+        (λ (h : c < 16). omega (arith, ap length (tabled_at f c h), tallied s c, fills_at (counts s) (lim s) (fills s) c))
         (λ h. omega (arith, ap length (tabled_past f c h)))
         (cases_lt c 16);
     sized = λ s c p hp.
@@ -262,13 +255,22 @@ put_row area area' n used c m l e w =
       ends = ap (λ (x : List Record). length (encode x)) b.0 ∙ ap length (encode_append rs more) ∙ omega (arith, length-append (encode rs) (encode more), ap length (append-nil m));
     }
 
-pub tallied_put : (counts : List ℕ) (rs : List Record) (c : ℕ) (m : List ℕ) → c < length counts → Tallied counts rs → Tallied (set counts c (get_or counts c 0 + 1)) (rs ++ (record_of c m ∷ []))
+tallied_put : (counts : List ℕ) (rs : List Record) (c : ℕ) (m : List ℕ) → c < length counts → Tallied counts rs → Tallied (set counts c (get_or counts c 0 + 1)) (rs ++ (record_of c m ∷ []))
 tallied_put counts rs c m h t d =
     let o = ap length (messages_append d rs (record_of c m ∷ [])) ∙ length-append (messages d rs) (messages d (record_of c m ∷ [])) in
     ⊎_elim
     (λ (e : d ≡ c). omega (arith, ap (λ (j : ℕ). get_or (set counts c (get_or counts c 0 + 1)) j 0) e, ap (λ (j : ℕ). get_or counts j 0) e, get_or-set_same counts c (get_or counts c 0 + 1) 0 h, t d, ap length (cond-true (eqb c d) (m ∷ []) [] (eq-eqb c d (sym e)))))
     (λ ne. omega (arith, get_or-set_other counts c d (get_or counts c 0 + 1) 0 ne, t d, ap length (cond-false (eqb c d) (m ∷ []) [] (ne_eqb c d (λ e. ne (sym e))))))
     (cases_eq d c)
+
+module _ (area area' : List ℕ) (n used c : ℕ) (m : List ℕ) (p : Put area area' n used c m) where
+  pub put_sound : Sound (decode n area) → Good (record_of c m) → Sound (decode (n + 1) area')
+  put_sound s g = subst Sound (sym p.rows) (sound_push (decode n area) (record_of c m) s g)
+
+  pub put_tallied : (counts : List ℕ) (i : ℕ) → i ≡ c → c < length counts → Tallied counts (decode n area) → Tallied (set counts i (get_or counts i 0 + 1)) (decode (n + 1) area')
+  put_tallied counts i e h t =
+      subst (λ (j : ℕ). Tallied (set counts j (get_or counts j 0 + 1)) (decode (n + 1) area')) (sym e)
+      (subst (Tallied (set counts c (get_or counts c 0 + 1))) (sym p.rows) (tallied_put counts (decode n area) c m h t))
 
 pub messages_put_here : (rs : List Record) (c : ℕ) (m : List ℕ) → messages c (rs ++ (record_of c m ∷ [])) ≡ messages c rs ++ (m ∷ [])
 messages_put_here rs c m = messages_append c rs (record_of c m ∷ []) ∙ ap (λ (x : List (List ℕ)). messages c rs ++ x) (cond-true (eqb c c) (m ∷ []) [] (eq-eqb c c refl))
@@ -277,7 +279,7 @@ pub messages_put_other : (rs : List Record) (c d : ℕ) (m : List ℕ) → (d �
 messages_put_other rs c d m ne = messages_append d rs (record_of c m ∷ []) ∙ ap (λ (x : List (List ℕ)). messages d rs ++ x) (cond-false (eqb c d) (m ∷ []) [] (ne_eqb c d (λ e. ne (sym e)))) ∙ append-nil (messages d rs)
 
 -- the first record of c, where it has one
-pub first_of : (area : List ℕ) (n used c at : ℕ) → Laid n area → length (encode (decode n area)) ≡ used → 0 < length (messages c (decode n area)) → at ≡ length (encode (before c (decode n area))) → (at + 3 ≤ length area) × First area n used c at (length_at area at)
+pub first_of : (area : List ℕ) (n used c at : ℕ) → Laid n area → length (encode (decode n area)) ≡ used → 0 < length (messages c (decode n area)) → at ≡ length (encode (before c (decode n area))) → First area n used c at (length_at area at)
 first_of area n used c at l e one is =
     let rs = decode n area in
     let junk = drop (length (encode rs)) area in
@@ -298,19 +300,57 @@ first_of area n used c at l e one is =
     let lr = ap length cut ∙ length-append b from in
     let lw = ap length (without_parts c rs) ∙ length-append b q in
     let ln = decode_length n area in
-    let far : at + 3 + length_at area at ≡ at + (3 + length m) = omega arith in (
-      omega (arith, h.inside),
-      record {
-        begins = is;
-        inside = omega arith;
-        size = ap length msg ∙ sym z;
-        oldest = sp.1.1 ∙ ap (λ (x : List ℕ). x ∷ messages c (without c rs)) (sym msg);
-        front = ap (take at) whole ∙ take_at (encode b) (encode from ++ junk) at (sym is);
-        back = ap (λ (k : ℕ). drop k area) far ∙ h.next ∙ ap (λ (k : ℕ). encode q ++ drop k area) e;
-        ends = omega arith;
-        count = omega arith;
-      },
-    )
+    let far : at + 3 + length_at area at ≡ at + (3 + length m) = omega arith in
+    record {
+      begins = is;
+      inside = omega arith;
+      size = ap length msg ∙ sym z;
+      oldest = sp.1.1 ∙ ap (λ (x : List ℕ). x ∷ messages c (without c rs)) (sym msg);
+      front = ap (take at) whole ∙ take_at (encode b) (encode from ++ junk) at (sym is);
+      back = ap (λ (k : ℕ). drop k area) far ∙ h.next ∙ ap (λ (k : ℕ). encode q ++ drop k area) e;
+      ends = omega arith;
+      count = omega arith;
+    }
+
+-- a walk over the records that stands before the k-th, and has met none of c
+pub record Walk (area : List ℕ) (n c at k : ℕ) : Type 0 where
+  pub first : at + length (encode (before c (drop k (decode n area)))) ≡ length (encode (before c (decode n area)))
+  pub rest : drop at area ≡ encode (drop k (decode n area)) ++ drop (length (encode (decode n area))) area
+  pub all : messages c (drop k (decode n area)) ≡ messages c (decode n area)
+
+module _ (area : List ℕ) (n c at k : ℕ) (w : Walk area n c at k) where
+  pub walk_end : n ≤ k → messages c (decode n area) ≡ []
+  walk_end h = sym w.all ∙ ap (messages c) (drop_all k (decode n area) (omega (arith, decode_length n area)))
+
+  module _ (h : k < n) where
+    pub walk_here : Here area (decode n area) (drop (length (encode (decode n area))) area) at k
+    walk_here = here area (decode n area) _ at k (omega (arith, decode_length n area)) w.rest
+
+    module _ (size : ℕ) (z : size ≡ length_at area at) where
+      pub walk_on : (get_or area at 0 ≡ c → ⊥) → Walk area n c (at + (3 + size)) (k + 1)
+      walk_on ne =
+          let e = walk_here in
+          let r = get_or (decode n area) k (record_of 0 []) in
+          let other : r.connection ≡ c → ⊥ = λ i. ne (e.first ∙ i) in
+          let rest = drop (k + 1) (decode n area) in
+          let step = ap (λ (x : List Record). length (encode (before c x))) e.cut ∙ before_step c r rest other in
+          let long : size ≡ length r.message = z ∙ e.long in
+          record {
+            first = omega (arith, w.first);
+            rest = ap (λ (j : ℕ). drop (at + (3 + j)) area) long ∙ e.next;
+            all = sym (ap (messages c) e.cut ∙ cond-false (eqb r.connection c) _ _ (ne_eqb r.connection c other)) ∙ w.all;
+          }
+
+      pub walk_stop : get_or area at 0 ≡ c → Laid n area → First area n (length (encode (decode n area))) c at size
+      walk_stop is l =
+          let e = walk_here in
+          let r = get_or (decode n area) k (record_of 0 []) in
+          let rest = drop (k + 1) (decode n area) in
+          let same : r.connection ≡ c = sym e.first ∙ is in
+          let some : messages c (decode n area) ≡ r.message ∷ messages c rest = sym w.all ∙ ap (messages c) e.cut ∙ cond-true (eqb r.connection c) _ _ (eq-eqb r.connection c same) in
+          let stop = ap (λ (x : List Record). length (encode (before c x))) e.cut ∙ before_stop c r rest same in
+          subst (First area n (length (encode (decode n area))) c at) (sym z)
+          (first_of area n _ c at l refl (omega (arith, ap length some)) (omega (arith, w.first)))
 
 -- the row closed up over it
 pub record Taken (area area' : List ℕ) (n used c len : ℕ) : Type 0 where
@@ -339,19 +379,21 @@ take_row area area' n used c at len f w =
       ends = ap (λ (x : List Record). length (encode x)) t.0 ∙ ap length enc ∙ omega arith;
     }
 
-pub tallied_take : (counts : List ℕ) (rs : List Record) (c : ℕ) (m : List ℕ) → c < length counts → Tallied counts rs → messages c rs ≡ m ∷ messages c (without c rs) → Tallied (set counts c (get_or counts c 0 - 1)) (without c rs)
+tallied_take : (counts : List ℕ) (rs : List Record) (c : ℕ) (m : List ℕ) → c < length counts → Tallied counts rs → messages c rs ≡ m ∷ messages c (without c rs) → Tallied (set counts c (get_or counts c 0 - 1)) (without c rs)
 tallied_take counts rs c m h t o d =
     ⊎_elim
     (λ (e : d ≡ c). omega (arith, ap (λ (j : ℕ). get_or (set counts c (get_or counts c 0 - 1)) j 0) e, ap (λ (j : ℕ). length (messages j (without c rs))) e, get_or-set_same counts c (get_or counts c 0 - 1) 0 h, t c, ap length o))
     (λ ne. omega (arith, get_or-set_other counts c d (get_or counts c 0 - 1) 0 ne, t d, ap length (messages_without c d rs ne)))
     (cases_eq d c)
 
-pub fills_set : (lim : ℕ) (xs : List ℕ) (i v : ℕ) → i < length xs → v ≤ lim → ((k : ℕ) → get_or xs k 0 ≤ lim) → (k : ℕ) → get_or (set xs i v) k 0 ≤ lim
-fills_set lim xs i v l h b k =
-    ⊎_elim
-    (λ (e : k ≡ i). omega (arith, ap (λ (j : ℕ). get_or (set xs i v) j 0) e, get_or-set_same xs i v 0 l))
-    (λ ne. omega (arith, get_or-set_other xs i k v 0 ne, b k))
-    (cases_eq k i)
+module _ (area area' : List ℕ) (n used c at len : ℕ) (p : Taken area area' n used c len) where
+  pub take_sound : Sound (decode n area) → Sound (decode (n - 1) area')
+  take_sound s = subst Sound (sym p.rows) (sound_without c (decode n area) s)
+
+  pub take_tallied : (counts : List ℕ) (i : ℕ) → i ≡ c → c < length counts → Tallied counts (decode n area) → First area n used c at len → Tallied (set counts i (get_or counts i 0 - 1)) (decode (n - 1) area')
+  take_tallied counts i e h t f =
+      subst (λ (j : ℕ). Tallied (set counts j (get_or counts j 0 - 1)) (decode (n - 1) area')) (sym e)
+      (subst (Tallied (set counts c (get_or counts c 0 - 1))) (sym p.rows) (tallied_take counts (decode n area) c _ h t f.oldest))
 
 -- `hi` and `ok` for 3 and `!` for 0 between them, as they lie, and after 3 took its first
 three : List Record

@@ -1,12 +1,12 @@
--- Places of a ring, a message written into a slot, and a number set in a list of bounded ones.
-use Rattle.std.proofs.Common.{◌≡◌, ℕ, ◌+◌, ◌-◌, ◌*◌, ◌<◌, ◌≤◌, ◌⊎◌, List, ◌++◌, length, get_or, take, drop, set, replicate, sym, refl, ap, ◌∙◌, inl, inr, ⊎_elim, arith}
+-- Places of a ring, and a message written into a slot.
+use Rattle.std.proofs.Common.{◌≡◌, ℕ, ◌+◌, ◌-◌, ◌*◌, ◌<◌, ◌≤◌, List, ◌++◌, length, take, drop, sym, refl, ap, ◌∙◌, ⊎_elim, arith}
 use borrow.Rule.Slice.PartMut.{put_mid}
-use Rattle.std.proofs.lemmas.List.{set_past, get_or_past, get_or-replicate, length-replicate, length-append, length-take, length-drop, drop-drop, get_or-set_same, get_or-set_other}
+use Rattle.std.proofs.lemmas.List.{length-append, length-take, length-drop, drop-drop}
 use Rattle.std.proofs.lemmas.Slice.{between_is, take-put_mid_below, drop-put_mid, between-put_mid}
-use Rattle.std.proofs.lemmas.Bool.{cases_eq, cases_lt}
+use Rattle.std.proofs.lemmas.Bool.{cases_lt}
 use Rattle.std.proofs.lemmas.Bool.Decides.{nat_tests}
 use Rattle.area.specs.Writes.{written}
-use Rattle.shelf.specs.Rows.{place, AtMost, Positive}
+use Rattle.shelf.specs.Rows.{place}
 
 -- two places of a ring differ
 pub place_ne : (limit head j k : ℕ) → head < limit → j < k → k < limit → place limit head j ≡ place limit head k → ⊥
@@ -43,27 +43,3 @@ module _ (area m : List ℕ) (s : ℕ) (room : 1024 * s + 1024 ≤ length area) 
       ∙ ap (λ (j : ℕ). take j (drop (1024 * t) area)) e)
       (λ ge. ap (take n) (drop-put_mid (1024 * s) (length m) area m (1024 * t) (omega arith) (omega arith) refl))
       (cases_lt t s)
-
-module _ (xs : List ℕ) (i v : ℕ) where
-  set_cases : (k : ℕ) → (get_or (set xs i v) k 0 ≡ v) ⊎ (get_or (set xs i v) k 0 ≡ get_or xs k 0)
-  set_cases k = ⊎_elim
-      (λ (e : k ≡ i). ⊎_elim
-      (λ (lt : i < length xs). inl (ap (λ (j : ℕ). get_or (set xs i v) j 0) e ∙ get_or-set_same xs i v 0 lt))
-      (λ ge. inr (ap (λ (ys : List ℕ). get_or ys k 0) (set_past xs i v ge)))
-      (cases_lt i (length xs)))
-      (λ ne. inr (get_or-set_other xs i k v 0 ne))
-      (cases_eq k i)
-
-  pub at_most_set : (top : ℕ) → v ≤ top → AtMost top xs → AtMost top (set xs i v)
-  at_most_set top h all k =
-      ⊎_elim (λ (e : get_or (set xs i v) k 0 ≡ v). omega arith) (λ e. omega (arith, all k)) (set_cases k)
-
-  pub positive_set : (n : ℕ) → 0 < v → Positive n xs → Positive n (set xs i v)
-  positive_set n h all k hk =
-      ⊎_elim (λ (e : get_or (set xs i v) k 0 ≡ v). omega arith) (λ e. omega (arith, all k hk)) (set_cases k)
-
-pub at_most_replicate : (n v top : ℕ) → v ≤ top → AtMost top (replicate n v)
-at_most_replicate n v top h k = ⊎_elim
-    (λ (lt : k < n). omega (arith, get_or-replicate n k v 0 lt))
-    (λ ge. omega (arith, get_or_past (replicate n v) k 0 (omega (arith, length-replicate n v))))
-    (cases_lt k n)

@@ -1,12 +1,17 @@
 -- What a shelf means.
-use Rattle.std.specs.Prelude.{ℕ, List, vec_items, slice_index}
+use Rattle.std.specs.Prelude.{ℕ, List, vec_items}
 use Rattle.mailbox.specs.Lists.{Lists, tabled}
+use Rattle.shelf.specs.declared.places.Ring.{Ring}
 use Rattle.shelf.specs.declared.places.Shelf.{Shelf}
-use Rattle.shelf.specs.Rows.{slot, kept, row}
+use Rattle.shelf.specs.Rows.{ring_at, slot, kept, row}
+
+-- the ring of c
+abbrev pub ring_in : Shelf → ℕ → Ring
+ring_in s c = ring_at s.rings c
 
 -- the messages of c
 abbrev pub row_of : Shelf → ℕ → List (List ℕ)
-row_of s = row s.limit s.heads s.counts s.lengths (vec_items s.area)
+row_of s c = row s.limit (ring_in s c) s.lengths (vec_items s.area) c
 
 abbrev pub lists_of : Shelf → Lists
 lists_of s = tabled (row_of s)
@@ -21,7 +26,7 @@ kept_in s at = kept s.lengths (vec_items s.area) at
 
 -- the slot of the k-th oldest message of c
 abbrev pub slot_in : Shelf → ℕ → ℕ → ℕ
-slot_in s c k = slot s.limit s.heads c k
+slot_in s c k = slot s.limit (ring_in s c) c k
 
 abbrev pub count_in : Shelf → ℕ → ℕ
-count_in s c = slice_index s.counts c
+count_in s c = (ring_in s c).count

@@ -8,9 +8,11 @@ ghost use Rattle.std.specs.Prelude.{◌≡◌, ◌/◌, min, [], replicate, vec_
 ghost use Rattle.shelf.specs.Meaning.{lists_of, limit_of};
 ghost use Rattle.shelf.specs.Laws.{laws};
 
-use mailbox::{CONNECTIONS, LONGEST, MailboxSet, Refusal};
+use area::store;
+use connection::{CONNECTIONS, Connection};
+use mailbox::{MailboxSet, Message, Refusal, limit_for};
 pub use places::Shelf;
-use places::{RINGS, SLOTS};
+use places::{PLACE, Ring, SLOTS};
 
 impl Shelf {
     // A shelf over an area, with nothing on it.
@@ -18,12 +20,11 @@ impl Shelf {
         ensures limit { limit_of result ≡ min 16 (vec_len area / 16384) }
         ensures empty { lists_of result ≡ replicate 16 [] }
     {
-        let limit = ring::places_in(area.len());
+        let limit = limit_for(area.len(), PLACE);
         Shelf {
             area,
             limit,
-            heads: [0; RINGS],
-            counts: [0; RINGS],
+            rings: [Ring { head: 0, count: 0 }; CONNECTIONS],
             lengths: [1; SLOTS],
         }
     }
@@ -41,19 +42,15 @@ impl MailboxSet for Shelf {
     }
 
     fn count(&self, c: u8) -> usize {
-        if c >= CONNECTIONS {
-            return 0;
+        match Connection::try_from(c) {
+            Ok(c) => self.count_of(c),
+            Err(_) => 0,
         }
-        self.count_of(c)
     }
 
     fn put(&mut self, c: u8, message: &[u8]) -> Result<(), Refusal> {
-        if c >= CONNECTIONS {
-            return Err(Refusal::NoMailbox);
-        }
-        if message.is_empty() || message.len() > LONGEST {
-            return Err(Refusal::BadLength);
-        }
+        let c = Connection::try_from(c)?;
+        let message = Message::try_from(message)?;
         if self.is_full(c) {
             return Err(Refusal::Full);
         }
@@ -62,22 +59,22 @@ impl MailboxSet for Shelf {
     }
 
     fn take(&mut self, c: u8, buffer: &mut [u8]) -> Result<usize, Refusal> {
-        if c >= CONNECTIONS || self.count_of(c) == 0 {
+        let Ok(c) = Connection::try_from(c) else {
             return Ok(0);
-        }
-        let message = self.oldest(c);
-        let len = message.len();
-        if len > buffer.len() {
+        };
+        let Some(message) = self.oldest(c) else {
+            return Ok(0);
+        };
+        let Some(size) = store(buffer, 0, message) else {
             return Err(Refusal::ShortBuffer);
-        }
-        buffer[..len].copy_from_slice(message);
+        };
         self.advance(c);
-        Ok(len)
+        Ok(size)
     }
 
     fn clear(&mut self, c: u8) {
-        if c < CONNECTIONS {
-            self.set_count(c, 0);
+        if let Ok(c) = Connection::try_from(c) {
+            self.empty(c);
         }
     }
 }

@@ -1,19 +1,28 @@
 // A shelf, and what holds of it between calls.
-ghost use Rattle.std.specs.Prelude.{◌≡◌, ◌-◌, ◌*◌, ◌≤◌, length, vec_len};
-ghost use Rattle.shelf.specs.Rows.{AtMost, Positive};
+ghost use Rattle.std.specs.Prelude.{◌≡◌, ◌*◌, ◌≤◌, length, vec_len};
+ghost use Rattle.std.specs.List.{All};
+ghost use Rattle.mailbox.specs.Lists.{IsSize};
+ghost use Rattle.shelf.specs.Rows.{IsRingOf};
 
-use mailbox::{CONNECTIONS, LONGEST};
+use connection::CONNECTIONS;
+use mailbox::{LONGEST, PLACES};
 
 // The bytes of a slot: the longest message fits.
 pub const SLOT: usize = LONGEST;
 
-// The most places that one connection has. A place is a slot for one waiting message.
-pub const PLACES: usize = 16;
+// A place is a slot for one waiting message of each connection.
+pub const PLACE: usize = CONNECTIONS * SLOT;
 
-// The places of a connection are a ring.
-pub const RINGS: usize = CONNECTIONS as usize;
+pub const SLOTS: usize = CONNECTIONS * PLACES;
 
-pub const SLOTS: usize = RINGS * PLACES;
+// The places of one connection.
+#[derive(Clone, Copy, PartialEq, Eq, Debug)]
+pub struct Ring {
+    // the place of the oldest message
+    pub head: u8,
+    // how many messages wait
+    pub count: u8,
+}
 
 // A mailbox set with a slot for each message that may wait: place p of connection c is slot 16 * p + c.
 #[derive(Drop)]
@@ -22,23 +31,16 @@ pub struct Shelf {
     pub(crate) area: Vec<u8>,
     // how many places each connection has
     pub(crate) limit: usize,
-    // by connection, the place of its oldest message
-    pub(crate) heads: [u8; RINGS],
-    // by connection, how many messages wait
-    pub(crate) counts: [u8; RINGS],
-    // by slot, the length of its message; 1 before the first
+    // by connection
+    pub(crate) rings: [Ring; CONNECTIONS],
+    // by slot, the length of its message, which has no room in a full slot; 1 before the first
     pub(crate) lengths: [u16; SLOTS],
     // every place lies in the area
     ghost most: { limit ≤ 16 },
     ghost room: { limit * 16384 ≤ vec_len area },
-    // every head is a place, and no more wait than there are places
-    ghost starts: { AtMost (limit - 1) heads },
-    ghost fills: { AtMost limit counts },
-    // every length is that of a message
-    ghost short: { AtMost 1024 lengths },
-    ghost some: { Positive 256 lengths },
-    // as many numbers as there are rings and slots
-    ghost headed: { length heads ≡ 16 },
-    ghost counted: { length counts ≡ 16 },
+    ghost turned: { All (IsRingOf limit) rings },
+    ghost sized: { All IsSize lengths },
+    // as many as there are connections and slots
+    ghost ringed: { length rings ≡ 16 },
     ghost measured: { length lengths ≡ 256 },
 }

@@ -1,18 +1,13 @@
 // The steps of a shelf, each in the ring of places of one connection.
-ghost use Rattle.std.specs.Prelude.{◌≡◌, ◌+◌, ◌-◌, ◌*◌, ◌/◌, ◌<◌, ◌≤◌, min, length, nat_le};
-ghost use Rattle.shelf.specs.Rows.{place};
-ghost use Rattle.shelf.specs.Meaning.{kept_in, slot_in, count_in};
-ghost use Rattle.shelf.specs.Changes.{Counted, Written, Appended, Advanced};
+ghost use Rattle.std.specs.Prelude.{◌≡◌, ◌*◌, ◌<◌, ◌≤◌, MatchOption, nat_le};
+ghost use Rattle.shelf.specs.Rows.{IsRingOf, place};
+ghost use Rattle.shelf.specs.Meaning.{ring_in, kept_in, slot_in, count_in};
+ghost use Rattle.shelf.specs.Changes.{Turned, Written, Appended, emptied, advanced};
 
-use crate::places::{PLACES, RINGS, SLOT, Shelf};
+use crate::places::{Ring, SLOT, Shelf};
 use area::store;
-
-// How many places an area of so many bytes has for each connection.
-pub(crate) fn places_in(bytes: usize) -> usize
-    ensures { result ≡ min 16 (bytes / 16384) }
-{
-    (bytes / (RINGS * SLOT)).min(PLACES)
-}
+use connection::{CONNECTIONS, Connection};
+use mailbox::Message;
 
 // The k-th place from the head on.
 fn place_from(limit: usize, head: usize, k: usize) -> usize
@@ -27,90 +22,97 @@ fn place_from(limit: usize, head: usize, k: usize) -> usize
 }
 
 impl Shelf {
-    // How many messages wait for c.
-    pub(crate) fn count_of(&self, c: u8) -> usize
-        requires { c < 16 }
-        ensures is { result ≡ count_in self.now c }
-        ensures most { result ≤ self.now.limit }
+    // The ring of c.
+    fn ring(&self, c: Connection) -> Ring
+        ensures is { result ≡ ring_in self.now c.number }
+        ensures places { IsRingOf self.now.limit result }
     {
-        usize::from(self.counts[usize::from(c)])
+        self.rings[c.index()]
+    }
+
+    // Gives c another ring.
+    fn turn(&mut self, c: Connection, ring: Ring)
+        requires { IsRingOf self.old.limit ring }
+        ensures { Turned self.old self.new c.number ring }
+    {
+        self.rings[c.index()] = ring;
+    }
+
+    // How many messages wait for c.
+    pub(crate) fn count_of(&self, c: Connection) -> usize
+        ensures { result ≡ count_in self.now c.number }
+    {
+        usize::from(self.ring(c).count)
     }
 
     // Whether c has as many messages as may wait.
-    pub(crate) fn is_full(&self, c: u8) -> bool
-        requires { c < 16 }
-        ensures { result ≡ nat_le self.now.limit (count_in self.now c) }
+    pub(crate) fn is_full(&self, c: Connection) -> bool
+        ensures { result ≡ nat_le self.now.limit (count_in self.now c.number) }
     {
         self.count_of(c) >= self.limit
     }
 
-    // Sets how many messages wait for c.
-    pub(crate) fn set_count(&mut self, c: u8, count: u8)
-        requires connection { c < 16 }
-        requires most { count ≤ self.old.limit }
-        ensures { Counted self.old self.new c count }
+    // Lets go of all messages of c.
+    pub(crate) fn empty(&mut self, c: Connection)
+        ensures { Turned self.old self.new c.number (emptied (ring_in self.old c.number)) }
     {
-        self.counts[usize::from(c)] = count;
+        let Ring { head, .. } = self.ring(c);
+        self.turn(c, Ring { head, count: 0 });
     }
 
     // The slot of the k-th oldest message of c.
-    fn slot_of(&self, c: u8, k: usize) -> usize
-        requires connection { c < 16 }
-        requires near { k < self.now.limit }
-        ensures is { result ≡ slot_in self.now c k }
+    fn slot_of(&self, c: Connection, k: usize) -> usize
+        requires { k < self.now.limit }
+        ensures is { result ≡ slot_in self.now c.number k }
         ensures within { result < 16 * self.now.limit }
     {
-        let i = usize::from(c);
-        RINGS * place_from(self.limit, usize::from(self.heads[i]), k) + i
+        let head = usize::from(self.ring(c).head);
+        CONNECTIONS * place_from(self.limit, head, k) + c.index()
     }
 
-    // The oldest message of c.
-    pub(crate) fn oldest(&self, c: u8) -> &[u8]
-        requires connection { c < 16 }
-        requires waits { 0 < count_in self.now c }
-        ensures { result.now ≡ kept_in self.now (slot_in self.now c 0) }
+    // The oldest message of c; None where nothing waits.
+    pub(crate) fn oldest(&self, c: Connection) -> Option<&[u8]>
+        ensures { MatchOption result (count_in self.now c.number ≡ 0) (λ m. (0 < count_in self.now c.number) × (m.now ≡ kept_in self.now (slot_in self.now c.number 0))) }
     {
+        if self.count_of(c) == 0 {
+            return None;
+        }
         let slot = self.slot_of(c, 0);
         let from = SLOT * slot;
         let to = from + usize::from(self.lengths[slot]);
-        &self.area[from..to]
+        Some(&self.area[from..to])
     }
 
     // Moves the head of c on by one place.
-    pub(crate) fn advance(&mut self, c: u8)
-        requires connection { c < 16 }
-        requires waits { 0 < count_in self.old c }
-        ensures { Advanced self.old self.new c }
+    pub(crate) fn advance(&mut self, c: Connection)
+        requires { 0 < count_in self.old c.number }
+        ensures { Turned self.old self.new c.number (advanced self.old.limit (ring_in self.old c.number)) }
     {
-        let i = usize::from(c);
-        let count = self.counts[i];
-        self.heads[i] = place_from(self.limit, usize::from(self.heads[i]), 1) as u8;
-        self.set_count(c, count - 1);
+        let Ring { head, count } = self.ring(c);
+        let head = place_from(self.limit, usize::from(head), 1) as u8;
+        let count = count - 1;
+        self.turn(c, Ring { head, count });
     }
 
     // Writes a message into a slot, and its length beside it.
-    fn write(&mut self, slot: usize, message: &[u8])
-        requires slot { slot < 16 * self.old.limit }
-        requires some { 0 < length message.now }
-        requires short { length message.now ≤ 1024 }
-        ensures { Written self.old self.new slot message.now }
+    fn write(&mut self, slot: usize, message: Message<'_>)
+        requires { slot < 16 * self.old.limit }
+        ensures { Written self.old self.new slot message.entry.bytes.now }
     {
         // it fits, since the whole slot lies in the area
-        let _ = store(&mut self.area, SLOT * slot, message);
-        self.lengths[slot] = message.len() as u16;
+        let _ = store(&mut self.area, SLOT * slot, message.bytes);
+        self.lengths[slot] = message.bytes.len() as u16;
     }
 
     // Writes a message behind the newest of c.
-    pub(crate) fn append(&mut self, c: u8, message: &[u8])
-        requires connection { c < 16 }
-        requires free { count_in self.old c < self.old.limit }
-        requires some { 0 < length message.now }
-        requires short { length message.now ≤ 1024 }
-        ensures { Appended self.old self.new c message.now }
+    pub(crate) fn append(&mut self, c: Connection, message: Message<'_>)
+        requires { count_in self.old c.number < self.old.limit }
+        ensures { Appended self.old self.new c.number message.entry.bytes.now }
     {
-        let count = self.counts[usize::from(c)];
+        let Ring { head, count } = self.ring(c);
         let slot = self.slot_of(c, usize::from(count));
         self.write(slot, message);
-        self.set_count(c, count + 1);
+        let count = count + 1;
+        self.turn(c, Ring { head, count });
     }
 }

@@ -1,21 +1,16 @@
-use Rattle.std.proofs.Common.{◌<◌, [], refl, arith}
-use Rattle.mailbox.proofs.Tables.{tabled_set, clear_past}
+use Rattle.std.proofs.Common.{[]}
+use Rattle.mailbox.proofs.Tables.{set_is, clear_past}
 use Rattle.shelf.specs.Meaning.{row_of}
-use Rattle.shelf.proofs.Queues.{emptied_here, emptied_other}
+use Rattle.shelf.proofs.Queues.{emptied_here, turned_other}
 use Rattle.shelf.proofs.ShelfMailboxSet.clear.Goals as goal
 
-pub returns-then-c-lt-CONNECTIONS : goal.returns-then-c-lt-CONNECTIONS
-returns-then-c-lt-CONNECTIONS c =
+pub returns-in-Ok-clause-after : goal.returns-in-Ok-clause-after
+returns-in-Ok-clause-after c =
     let s = c.args.self.now in
-    let t = c.set_count.new.self in
-    let i = c.args.c in
-    let h : i < 16 = omega arith in
-    let e = c.set_count.ensures in
-    record {
-      after = tabled_set (row_of s) (row_of t) i [] h (emptied_here s t i h e) (λ k hk ne. emptied_other s t i h e k ne);
-      bound = e.limit;
-    }
+    let t = c.empty.new.self in
+    let k = c.in-Ok.c in
+    let e = c.empty.ensures in
+    set_is (row_of s) k c.args.c c.in-Ok.ensures.1 (row_of t) [] (emptied_here s t k.number k.within e) (λ d h ne. turned_other s t k.number k.within _ e d ne)
 
-pub returns-else-c-lt-CONNECTIONS : goal.returns-else-c-lt-CONNECTIONS
-returns-else-c-lt-CONNECTIONS c =
-    record { after = clear_past (row_of c.args.self.now) c.args.c (omega arith); bound = refl }
+pub returns-in_default-clause-after : goal.returns-in_default-clause-after
+returns-in_default-clause-after c = clear_past (row_of c.args.self.now) c.args.c c.in_default.ensures

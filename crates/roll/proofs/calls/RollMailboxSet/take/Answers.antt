@@ -1,58 +1,49 @@
-use Rattle.std.proofs.Common.{◌≡◌, ℕ, ◌+◌, ◌<◌, List, ◌++◌, length, take, drop, Ok, Err, vec_items, sym, refl, ap, ◌∙◌, arith}
-use Rattle.std.proofs.lemmas.List.{nil_from_length}
-use Rattle.std.proofs.lemmas.Result.{err_from_is_err_and}
-use Rattle.std.proofs.lemmas.Bool.{ltb-false, ltb-true}
-use Rattle.mailbox.proofs.Tables.{take_none, take_short, take_done}
-use Rattle.roll_records.specs.Records.{messages, without}
-use Rattle.roll_records.proofs.Rows.{counted, counted_below, laid_length, messages_without}
+use Rattle.std.proofs.Common.{◌≡◌, ℕ, ◌+◌, List, ◌∷◌, length, take, drop, vec_items, Ok, sym, refl, ap, ◌∙◌, arith}
+use Rattle.area.proofs.Joins.{stored, not_stored, written_front}
+use Rattle.mailbox.proofs.Tables.{take_past, take_none, take_short, take_done}
+use Rattle.roll_records.specs.Records.{Record, messages, without, First}
+use Rattle.roll_records.proofs.Rows.{messages_without}
+use Rattle.roll.specs.declared.Roll.{Roll}
 use Rattle.roll.specs.Meaning.{row, waits}
 use Rattle.roll.proofs.calls.RollMailboxSet.take.Goals as goal
 
-pub returns-then-not-has_any : goal.returns-then-not-has_any
-returns-then-not-has_any c =
-    let s = c.args.self.now in
-    let zero = ltb-false 0 _ (sym c.has_any.ensures ∙ c.if-not-has_any.true) in
-    let t = take_none (waits s) c.args.c c.args.buffer.now (nil_from_length _ (omega (arith, counted s.counts (row s) s.sixteen s.tallied c.args.c))) in
-    record { answer = t.0; after = t.1; buffer = t.2; bound = refl }
+pub returns-in_default : goal.returns-in_default
+returns-in_default c =
+    let d = take_past (waits c.args.self.now) c.args.c c.args.buffer.now c.in_default.ensures in
+    record { answer = d.0; after = d.1; buffer = d.2; bound = refl }
 
-pub copy_message-requires : goal.copy_message-requires
-copy_message-requires c =
-    let s = c.args.self.now in
-    omega (arith, laid_length s.records (vec_items s.area) s.laid, s.ends, c.oldest-at.ensures.inside, ap length c.deref.ensures.value)
+pub returns-in_default-oldest : goal.returns-in_default-oldest
+returns-in_default-oldest c =
+    let d = take_none (waits c.args.self.now) c.in-Ok.c c.args.c c.in-Ok.ensures.1 c.args.buffer.now c.in_default-oldest.ensures in
+    record { answer = d.0; after = d.1; buffer = d.2; bound = refl }
 
-pub returns-in_err-copy_message : goal.returns-in_err-copy_message
-returns-in_err-copy_message c =
+-- the oldest message, as it was read
+first : (s : Roll) (c at size : ℕ) (area m : List ℕ) → First (vec_items s.area) s.records s.used c at size → area ≡ vec_items s.area → m ≡ take size (drop (at + 3) area) → waits s c ≡ m ∷ messages c (without c (row s))
+first s c at size area m f e is = f.oldest ∙ ap (λ (x : List ℕ). x ∷ messages c (without c (row s))) (sym (is ∙ ap (λ (xs : List ℕ). take size (drop (at + 3) xs)) e))
+
+pub returns-in_default-store : goal.returns-in_default-store
+returns-in_default-store c =
     let s = c.args.self.now in
-    let h : c.args.c < 16 = counted_below s.counts c.args.c s.sixteen (ltb-true 0 _ (sym c.has_any.ensures ∙ c.if-not-has_any.false)) in
-    let o = c.oldest-at.ensures in
-    let short = c.in_err-copy_message.ensures in
-    let p = err_from_is_err_and c.from_residual.result c.from_residual.ensures.1 in
-    let t = take_short (waits s) c.args.c c.args.buffer.now _ _ h o.oldest (omega (arith, o.size, short)) in
-    record { answer = p.1 ∙ ap Err (p.2 ∙ short.0) ∙ t.0; after = t.1; buffer = short.2 ∙ t.2; bound = refl }
+    let k = c.in-Ok.c in
+    let m = c.message_of.result.now in
+    let b = c.args.buffer.now in
+    let n = not_stored b m 0 (sym c.in_default-store.ensures.end) in
+    let is = first s k.number _ _ _ m c.in-Some.ensures c.deref.ensures.value c.message_of.ensures in
+    let d = take_short (waits s) k c.args.c c.in-Ok.ensures.1 b m _ is (omega arith) in
+    record { answer = d.0; after = d.1; buffer = c.store.ensures.after ∙ n.1 ∙ d.2; bound = refl }
 
 pub returns : goal.returns
 returns c =
     let s = c.args.self.now in
-    let k = c.args.c in
-    let h : k < 16 = counted_below s.counts k s.sixteen (ltb-true 0 _ (sym c.has_any.ensures ∙ c.if-not-has_any.false)) in
-    let o = c.oldest-at.ensures in
-    let size = c.oldest-at.result.1 in
-    let m : List ℕ = take size (drop (c.oldest-at.result.0 + 3) (vec_items s.area)) in
-    let long : length m ≡ size = o.size in
-    let copied = c.in_ok-copy_message.ensures in
+    let t = c.close_up.new.self in
+    let k = c.in-Ok.c in
+    let m = c.message_of.result.now in
+    let b = c.args.buffer.now in
     let rows = c.close_up.ensures.rows in
-    let t =
-    take_done (waits s) (waits c.close_up.new.self) k c.args.buffer.now m (messages k (without k (row s))) h o.oldest (omega (arith, copied.0))
-    (ap (messages k) rows)
-    (λ j hj ne. ap (messages j) rows ∙ messages_without k j (row s) ne)
-    in
-    record {
-      answer = ap Ok (sym long) ∙ t.0;
-      after = t.1;
-      buffer =
-          copied.1
-          ∙ ap (λ (xs : List ℕ). take size (drop (c.oldest-at.result.0 + 3) xs) ++ drop size c.args.buffer.now) c.deref.ensures.value
-          ∙ ap (λ (n : ℕ). m ++ drop n c.args.buffer.now) (sym long)
-          ∙ t.2;
-      bound = c.close_up.ensures.limit;
-    }
+    let n = stored b m 0 c.in-Some-store.size (sym c.in-Some-store.ensures.end) in
+    let size : c.in-Some-store.size ≡ length m = omega arith in
+    let is = first s k.number _ _ _ m c.in-Some.ensures c.deref.ensures.value c.message_of.ensures in
+    let d = take_done (waits s) k c.args.c c.in-Ok.ensures.1 b (waits t) m
+    (is ∙ ap (λ (rs : List Record). m ∷ messages k.number rs) (sym rows)) (omega arith)
+    (λ d h ne. ap (messages d) rows ∙ messages_without k.number d (row s) ne) in
+    record { answer = ap Ok size ∙ d.0; after = d.1; buffer = c.store.ensures.after ∙ n.2 ∙ written_front b m ∙ d.2; bound = c.close_up.ensures.limit }
