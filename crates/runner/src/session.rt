@@ -40,18 +40,6 @@ impl fmt::Display for Trouble {
     }
 }
 
-fn name_of(call: &Call) -> &'static str {
-    match call {
-        Call::Bus { .. } => "bus",
-        Call::Open { .. } => "open",
-        Call::Line { .. } => "line",
-        Call::Message { .. } => "message",
-        Call::Tick { .. } => "tick",
-        Call::Take { .. } => "take",
-        Call::Close { .. } => "close",
-    }
-}
-
 // An answer that is not the recorded one.
 #[derive(Drop)]
 pub struct Disagreement {
@@ -125,7 +113,7 @@ impl Session {
         };
         let came = match perform(heap, &mut lives, call) {
             Ok(came) => came,
-            Err(Unmade::NotYet) => return Err(Trouble::NotYet(name_of(call))),
+            Err(Unmade::NotYet) => return Err(Trouble::NotYet(call.verb().name())),
             Err(Unmade::OutOfMemory) => return Err(Trouble::OutOfMemory),
         };
         if let (Call::Line { connection, .. }, Answer::Wrote(_)) = (call, &came) {
