@@ -1,9 +1,7 @@
 -- How calls are counted. A count stops at the greatest number of 64 bits.
-use Rattle.std.specs.Prelude.{ℕ, ◌+◌, ◌-◌, ◌^◌, min, Bool, true, false, cond}
+use Rattle.std.specs.Prelude.{ℕ, ◌+◌, ◌-◌, ◌^◌, min, Bool, cond}
 use Rattle.replay.specs.declared.tally.Count.{Count}
 use Rattle.replay.specs.declared.tally.Tally.{Tally}
-use Rattle.stream.specs.declared.answer.Answer.{Answer}
-use Rattle.stream.specs.declared.answer.Answer.TheVariants.{Done, Wrote, Routed, Refused, Malformed}
 use Rattle.stream.specs.declared.call.Call.{Call}
 use Rattle.stream.specs.declared.call.Call.TheVariants.{Bus, Open, Line, Message, Tick, Take, Close}
 
@@ -12,13 +10,6 @@ plus m n = min (m + n) (2 ^ 64 - 1)
 
 abbrev pub more : ℕ → ℕ
 more n = plus n 1
-
-abbrev pub denied : Answer → Bool
-denied Done = false
-denied (Wrote bytes) = false
-denied (Routed placed missed) = false
-denied (Refused n) = true
-denied (Malformed part cause byte) = true
 
 abbrev pub once_more : Count → Bool → Count
 once_more n refused = record { made = more n.made; refused = cond refused (more n.refused) n.refused }
@@ -31,13 +22,13 @@ none = record { buses = 0; opens = zero_calls; lines = zero_calls; closes = zero
 
 -- a call counts with its kind, and a new bus with the buses
 abbrev pub counted : Call → Bool → Tally → Tally
-counted (Bus limit id) refused n = record { buses = more n.buses; opens = n.opens; lines = n.lines; closes = n.closes; finished = n.finished; agreed = n.agreed }
-counted (Open c uid) refused n = record { buses = n.buses; opens = once_more n.opens refused; lines = n.lines; closes = n.closes; finished = n.finished; agreed = n.agreed }
-counted (Line c bytes size) refused n = record { buses = n.buses; opens = n.opens; lines = once_more n.lines refused; closes = n.closes; finished = n.finished; agreed = n.agreed }
+counted (Bus limit id) refused n = record n { buses = more n.buses }
+counted (Open c uid) refused n = record n { opens = once_more n.opens refused }
+counted (Line c bytes size) refused n = record n { lines = once_more n.lines refused }
 counted (Message c bytes) refused n = n
 counted (Tick time) refused n = n
 counted (Take c size) refused n = n
-counted (Close c) refused n = record { buses = n.buses; opens = n.opens; lines = n.lines; closes = once_more n.closes refused; finished = n.finished; agreed = n.agreed }
+counted (Close c) refused n = record n { closes = once_more n.closes refused }
 
 abbrev pub total : Tally → ℕ
 total n = plus (plus n.opens.made n.lines.made) n.closes.made

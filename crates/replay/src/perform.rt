@@ -2,13 +2,15 @@
 ghost use Rattle.std.specs.Prelude.{◌≡◌, Some, MatchResult};
 ghost use Rattle.replay.specs.declared.perform.Unmade.TheVariants.{OutOfMemory};
 ghost use Rattle.stream.specs.Replies.{said as telling};
-ghost use Rattle.lives.specs.Calls.{opened, closed, lined};
+ghost use Rattle.stream.specs.Refusals.{number_of};
+ghost use Rattle.lives.specs.Calls.{numbered, opened, closed, lined};
 ghost use Rattle.replay.specs.Outcomes.{opening, wrote_or_refused, answered, altered, Unanswered};
 
-use lives::calls::Refusal;
+use handshake::machine::Refusal as LineRefusal;
+use lives::calls::Refusal as LifeRefusal;
 use lives::table::Lives;
 use std::alloc::{AllocError, Global};
-use stream::{Answer, Call};
+use stream::{Answer, Call, Refusal};
 
 // Why a call was not made.
 #[derive(Clone, Copy, PartialEq, Eq, Debug)]
@@ -27,13 +29,26 @@ impl From<AllocError> for Unmade {
     }
 }
 
+// A refusal as a row has it.
+fn recorded(refusal: LifeRefusal) -> Refusal
+    ensures { number_of result ≡ numbered refusal }
+{
+    match refusal {
+        LifeRefusal::NoLife => Refusal::NoLife,
+        LifeRefusal::Taken => Refusal::Taken,
+        LifeRefusal::Line(LineRefusal::ShortBuffer) => Refusal::ShortBuffer,
+        LifeRefusal::Line(LineRefusal::AlreadyBegun) => Refusal::AlreadyBegun,
+        LifeRefusal::Line(LineRefusal::EarlyBegin) => Refusal::EarlyBegin,
+    }
+}
+
 // The answer of a call that answers nothing but 0.
-fn settled(res: Result<(), Refusal>) -> Answer
+fn settled(res: Result<(), LifeRefusal>) -> Answer
     ensures { telling result ≡ opening res }
 {
     match res {
         Ok(()) => Answer::Done,
-        Err(refusal) => Answer::Refused(refusal.number()),
+        Err(refusal) => Answer::Refused(recorded(refusal)),
     }
 }
 
@@ -55,7 +70,7 @@ fn give_line(
             buffer.truncate(count);
             Ok(Answer::Wrote(buffer))
         }
-        Err(refusal) => Ok(Answer::Refused(refusal.number())),
+        Err(refusal) => Ok(Answer::Refused(recorded(refusal))),
     }
 }
 
@@ -71,10 +86,7 @@ pub fn perform(heap: Global, lives: &mut Lives, call: &Call) -> Result<Answer, U
             connection,
             bytes,
             size,
-        } => {
-            let answer = give_line(heap, lives, *connection, bytes.as_slice(), *size)?;
-            Ok(answer)
-        }
+        } => Ok(give_line(heap, lives, *connection, bytes.as_slice(), *size)?),
         Call::Close { connection } => Ok(settled(lives.close(*connection))),
         Call::Bus { .. } | Call::Message { .. } | Call::Tick { .. } | Call::Take { .. } => Err(
             Unmade::NotYet,

@@ -1,11 +1,12 @@
 // How many calls were made, and how they went.
 ghost use Rattle.std.specs.Prelude.{◌≡◌, ◌+◌};
-ghost use Rattle.replay.specs.Counts.{denied, once_more, more, counted, none, total};
+ghost use Rattle.replay.specs.Counts.{once_more, more, counted, none, total};
+ghost use Rattle.stream.specs.Replies.{denied};
 
 use stream::{Answer, Call};
 
 // The calls of one kind. A refused call is made too.
-#[derive(Clone, Copy, PartialEq, Eq, Debug)]
+#[derive(Clone, Copy, PartialEq, Eq, Debug, Default)]
 pub struct Count {
     pub made: u64,
     pub refused: u64,
@@ -24,7 +25,7 @@ impl Count {
 }
 
 // What a replay has accomplished.
-#[derive(Clone, Copy, PartialEq, Eq, Debug)]
+#[derive(Clone, Copy, PartialEq, Eq, Debug, Default)]
 pub struct Tally {
     pub buses: u64,
     pub opens: Count,
@@ -36,39 +37,19 @@ pub struct Tally {
     pub agreed: u64,
 }
 
-fn is_refused(answer: &Answer) -> bool
-    ensures { result ≡ denied answer.now }
-{
-    match answer {
-        Answer::Refused(_) | Answer::Malformed { .. } => true,
-        Answer::Done | Answer::Wrote(_) | Answer::Routed { .. } => false,
-    }
-}
-
 impl Tally {
     // Nothing yet.
     pub fn new() -> Tally
         ensures { result ≡ none }
     {
-        let zero = Count {
-            made: 0,
-            refused: 0,
-        };
-        Tally {
-            buses: 0,
-            opens: zero,
-            lines: zero,
-            closes: zero,
-            finished: 0,
-            agreed: 0,
-        }
+        Tally::default()
     }
 
     // Counts a call, by the answer that came.
     pub fn note(&mut self, call: &Call, came: &Answer)
         ensures { self.new ≡ counted call.now (denied came.now) self.old }
     {
-        let refused = is_refused(came);
+        let refused = came.is_refused();
         match call {
             Call::Bus { .. } => self.buses = self.buses.saturating_add(1),
             Call::Open { .. } => self.opens.add(refused),

@@ -43,18 +43,6 @@ impl fmt::Display for Trouble {
 
 impl Error for Trouble {}
 
-fn name_of(call: &Call) -> &'static str {
-    match call {
-        Call::Bus { .. } => "bus",
-        Call::Open { .. } => "open",
-        Call::Line { .. } => "line",
-        Call::Message { .. } => "message",
-        Call::Tick { .. } => "tick",
-        Call::Take { .. } => "take",
-        Call::Close { .. } => "close",
-    }
-}
-
 // An answer that is not the recorded one.
 #[derive(Drop)]
 pub struct Disagreement {
@@ -127,7 +115,7 @@ impl Session {
             return Err(Trouble::NoBus);
         };
         let came = perform(heap, lives, call).map_err(|unmade| match unmade {
-            Unmade::NotYet => Trouble::NotYet(name_of(call)),
+            Unmade::NotYet => Trouble::NotYet(call.verb().name()),
             Unmade::OutOfMemory => Trouble::OutOfMemory,
         })?;
         if let (Call::Line { connection, .. }, Answer::Wrote(_)) = (call, &came) {

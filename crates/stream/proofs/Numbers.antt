@@ -1,7 +1,5 @@
 -- What `parse` reads of a text without a plus or leading zeros.
-use Rattle.std.proofs.Common.{◌≡◌, ℕ, ◌^◌, ◌<◌, ◌≤◌, List, length, get_or, Some, Ok, Err, IsUtf8, decimal, Option, Result, sym, ap, ◌∙◌, subst, inl, inr, arith, Bor, MatchOption}
-use Rattle.std.specs.Slice.{IsGetResult}
-use Rattle.std.proofs.lemmas.List.{get_or_read}
+use Rattle.std.proofs.Common.{◌≡◌, ℕ, ◌^◌, ◌<◌, ◌≤◌, List, length, get_or, Some, None, Ok, Err, IsUtf8, decimal, Option, Result, sym, ap, ◌∙◌, subst, inl, inr, arith, MatchOption, MatchResult}
 use Rattle.std.specs.Str.Parse.{AllDigits, digits_value, ParsesUnsigned}
 use Rattle.std.specs.Result.{result_ok}
 use Rattle.std.specs.Int.{IsInRange}
@@ -53,6 +51,11 @@ no_none bs none n small e = omega (arith, decimal_nonempty n small, ap length e)
 pub no_utf8 : (bs : List ℕ) → (IsUtf8 bs → ⊥) → (n : ℕ) → n < 2 ^ 64 → bs ≡ decimal n → ⊥
 no_utf8 bs none n small e = none (subst IsUtf8 (sym e) (IsUtf8-from_ascii (decimal n) (IsAscii-decimal n small)))
 
--- what `first` gives
-pub at_first : (xs : List ℕ) (x : Bor ℕ) → IsGetResult xs 0 0 (Some x) → (0 < length xs) × (get_or xs 0 0 ≡ x.now)
-at_first xs x h = (h.3.0, sym (get_or_read xs 0 x.now h.3.0 h.1 0))
+-- what a result says, by what `ok` makes of it
+pub of_none : {T E : Type 0} (P : T → Type 0) (Q : E → Type 0) (r : Result T E) → MatchResult r P Q → None ≡ result_ok r → (e : E) × Q e
+of_none P Q (Ok x) h e = let z : ◌≡◌ {A = ℕ} 0 1 = cc in absurd (omega arith)
+of_none P Q (Err e) h z = (e, h)
+
+pub of_some : {T E : Type 0} (P : T → Type 0) (Q : E → Type 0) (r : Result T E) (x : T) → MatchResult r P Q → Some x ≡ result_ok r → P x
+of_some P Q (Ok y) x h e = let z : y ≡ x = cc in subst P z h
+of_some P Q (Err e) x h f = let z : ◌≡◌ {A = ℕ} 0 1 = cc in absurd (omega arith)

@@ -49,10 +49,6 @@ pairs_left [] left bs all e = (bs, (all, e))
 pairs_left (d ∷ ds) left [] all e = let z : ◌≡◌ {A = ℕ} 0 1 = cc in absurd (omega arith)
 pairs_left (d ∷ ds) left (b ∷ bs) all e = pairs_left ds left bs (bytes_tail b bs all) (cc)
 
-pub hex_pairs : (bs : List ℕ) → 0 < length (pairs bs) → hex bs ≡ pairs bs
-hex_pairs [] h = absurd (omega arith)
-hex_pairs (b ∷ bs) h = refl
-
 abbrev pub NoPairs : List ℕ → Type 0
 NoPairs left = (bs : List ℕ) → Bytes bs → left ≡ pairs bs → ⊥
 
@@ -74,7 +70,8 @@ no_odd left one [] all e = omega (arith, ap length e)
 no_odd left one (b ∷ bs) all e = omega (arith, ap length e)
 
 pub hex_some : (bs : List ℕ) → 0 < length bs → hex bs ≡ pairs bs
-hex_some bs h = hex_pairs bs (omega (arith, length_pairs bs))
+hex_some [] h = absurd (omega arith)
+hex_some (b ∷ bs) h = refl
 
 -- words of equal bytes are of equally many
 pub same_length : (xs bs : List ℕ) → hex xs ≡ hex bs → length xs ≡ length bs

@@ -1,33 +1,51 @@
 -- What stands after '!'.
-use Rattle.std.proofs.Common.{◌≡◌, ℕ, ◌≤◌, List, [], ◌∷◌, Ok, Err, decimal, Result, sym, ap, ◌∙◌, subst, inl, inr, arith}
-use Rattle.std.proofs.lemmas.Fmt.{decimal_injective}
-use Rattle.stream.specs.Replies.{Refusal, Place, Placed, Denied}
+use Rattle.std.proofs.Common.{◌≡◌, ℕ, ◌^◌, ◌<◌, ◌≤◌, List, [], ◌∷◌, Ok, Err, decimal, Result, sym, ap, ◌∙◌, subst, inl, inr, arith}
+use Rattle.stream.specs.Refusals.{number_of}
+use Rattle.stream.specs.Replies.{Denial, Place, Placed, Denied}
 use Rattle.stream.specs.declared.answer.Answer.{Answer}
 use Rattle.stream.specs.declared.fault.Fault.{Fault}
-use Rattle.stream.proofs.Exits.{first_same, rest_same}
+use Rattle.stream.specs.declared.refusal.Refusal.{Refusal}
+use Rattle.stream.specs.declared.refusal.Refusal.TheVariants.{NoLife, Taken, ShortBuffer, AlreadyBegun, EarlyBegin, NotBegun, NoName, NoDestination, NoPendingCall, NoPlace, SerialPending, BadTime, ShortTake}
+use Rattle.stream.proofs.Exits.{same_number, rest_same}
 
-pub no_refusal : (ws : List (List ℕ)) → ((n : ℕ) (left : List (List ℕ)) → n ≤ 14 → ws ≡ decimal n ∷ left → ⊥) → Refusal ws → ⊥
-no_refusal ws none (inl s) = none s.0 [] s.2 s.4
-no_refusal ws none (inr s) = none 7 s.0 (omega arith) s.1
+-- a refusal's number is small, and not that of a malformed message
+pub number_range : (r : Refusal) → (number_of r ≤ 14) × (number_of r ≡ 7 → ⊥)
+number_range NoLife = (omega arith, λ e. omega arith)
+number_range Taken = (omega arith, λ e. omega arith)
+number_range ShortBuffer = (omega arith, λ e. omega arith)
+number_range AlreadyBegun = (omega arith, λ e. omega arith)
+number_range EarlyBegin = (omega arith, λ e. omega arith)
+number_range NotBegun = (omega arith, λ e. omega arith)
+number_range NoName = (omega arith, λ e. omega arith)
+number_range NoDestination = (omega arith, λ e. omega arith)
+number_range NoPendingCall = (omega arith, λ e. omega arith)
+number_range NoPlace = (omega arith, λ e. omega arith)
+number_range SerialPending = (omega arith, λ e. omega arith)
+number_range BadTime = (omega arith, λ e. omega arith)
+number_range ShortTake = (omega arith, λ e. omega arith)
 
-module _ (ws left : List (List ℕ)) (m : ℕ) where
-  same : (n : ℕ) {rest : List (List ℕ)} → m ≤ 14 → n ≤ 14 → ws ≡ decimal m ∷ left → ws ≡ decimal n ∷ rest → m ≡ n
-  same n small low e f = decimal_injective m n (omega arith) (omega arith) (first_same e f)
+pub no_refusal : (ws : List (List ℕ)) → ((n : ℕ) (left : List (List ℕ)) → n < 2 ^ 8 → n < 2 ^ 64 → ws ≡ decimal n ∷ left → ⊥) → Denial ws → ⊥
+no_refusal ws none (inl s) = none (number_of s.0) [] (omega (arith, number_range s.0)) (omega (arith, number_range s.0)) s.1
+no_refusal ws none (inr s) = none 7 s.0 (omega arith) (omega arith) s.1
 
-  pub zero_refusal : ws ≡ decimal m ∷ left → m ≡ 0 → Refusal ws → ⊥
-  zero_refusal e z (inl s) = omega (arith, same s.0 (omega arith) s.2 e s.4)
-  zero_refusal e z (inr s) = omega (arith, same 7 (omega arith) (omega arith) e s.1)
+module _ (ws left : List (List ℕ)) (m : ℕ) (small : m < 2 ^ 8) (e : ws ≡ decimal m ∷ left) where
+  same : (n : ℕ) {rest : List (List ℕ)} → n < 2 ^ 8 → ws ≡ decimal n ∷ rest → m ≡ n
+  same n low f = same_number m n (omega arith) (omega arith) e f
 
-  pub by_place : (r : Result Answer Fault) → ws ≡ decimal m ∷ left → m ≡ 7 → Placed left r → Denied ws r
-  by_place (Ok a) e z h = (h.0, e ∙ ap (λ n. decimal n ∷ left) z ∙ h.1, h.2, h.3)
-  by_place (Err x) e z h = (
+  pub by_place : (r : Result Answer Fault) → m ≡ 7 → Placed left r → Denied ws r
+  by_place (Ok a) z h = (h.0, e ∙ ap (λ n. decimal n ∷ left) z ∙ h.1, h.2, h.3)
+  by_place (Err x) z h = (
     h.0,
     λ d. elim d [
-      | inl s ↦ s.3 (sym (same s.0 (omega arith) s.2 e s.4) ∙ z)
+      | inl s ↦ (number_range s.0).1 (sym (same (number_of s.0) (omega (arith, number_range s.0)) s.1) ∙ z)
       | inr s ↦ h.1 (subst Place (rest_same s.1 e) s.2)
     ],
   )
 
-  pub more_words : ws ≡ decimal m ∷ left → m ≤ 14 → (m ≡ 7 → ⊥) → (left ≡ [] → ⊥) → Refusal ws → ⊥
-  more_words e small other more (inl s) = more (rest_same e s.4)
-  more_words e small other more (inr s) = other (same 7 small (omega arith) e s.1)
+  pub no_number : (m ≡ 7 → ⊥) → ((r : Refusal) → number_of r ≡ m → ⊥) → Denial ws → ⊥
+  no_number other none (inl s) = none s.0 (sym (same (number_of s.0) (omega (arith, number_range s.0)) s.1))
+  no_number other none (inr s) = other (same 7 (omega arith) s.1)
+
+  pub more_words : (m ≡ 7 → ⊥) → (left ≡ [] → ⊥) → Denial ws → ⊥
+  more_words other more (inl s) = more (rest_same e s.1)
+  more_words other more (inr s) = other (same 7 (omega arith) s.1)

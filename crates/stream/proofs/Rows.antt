@@ -6,8 +6,8 @@ use Rattle.stream.specs.Text.{cut}
 use Rattle.stream.specs.Verbs.{name, Shape}
 use Rattle.stream.specs.declared.call.Call.{Call}
 use Rattle.stream.specs.declared.call.Call.TheVariants.{Bus, Open, Line, Message, Tick, Take, Close}
-use Rattle.stream.specs.declared.call.Verb.{Verb}
-use Rattle.stream.specs.declared.call.Verb.TheVariants as verb
+use Rattle.stream.specs.declared.verb.Verb.{Verb}
+use Rattle.stream.specs.declared.verb.Verb.TheVariants as verb
 use Rattle.stream.specs.declared.fault.Fault.{Fault}
 use Rattle.stream.proofs.Cuts.{same_first, Solid, cut_spaced, spaced_cut, without_clear}
 use Rattle.stream.proofs.Pairs.{without_hex}

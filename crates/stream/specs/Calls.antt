@@ -7,8 +7,8 @@ use Rattle.stream.specs.declared.answer.Form.{Form}
 use Rattle.stream.specs.declared.answer.Form.TheVariants as form
 use Rattle.stream.specs.declared.call.Call.{Call}
 use Rattle.stream.specs.declared.call.Call.TheVariants.{Bus, Open, Line, Message, Tick, Take, Close}
-use Rattle.stream.specs.declared.call.Verb.{Verb}
-use Rattle.stream.specs.declared.call.Verb.TheVariants as verb
+use Rattle.stream.specs.declared.verb.Verb.{Verb}
+use Rattle.stream.specs.declared.verb.Verb.TheVariants as verb
 use Rattle.stream.specs.declared.fault.Fault.{Fault}
 use Rattle.stream.specs.declared.fault.Fault.TheVariants.{OutOfMemory}
 

@@ -1,8 +1,10 @@
 -- The names of the calls, and the words that follow each.
-use Rattle.std.specs.Prelude.{◌≡◌, ℕ, ◌^◌, ◌<◌, ◌≤◌, List, [], ◌∷◌, length, codes, decimal}
+use Rattle.std.specs.Prelude.{◌≡◌, ℕ, ◌^◌, ◌<◌, ◌≤◌, List, [], ◌∷◌, length, codes, decimal, Result, MatchResult, ◌≢◌}
 use Rattle.stream.specs.Spelling.{hex, Bytes}
-use Rattle.stream.specs.declared.call.Verb.{Verb}
-use Rattle.stream.specs.declared.call.Verb.TheVariants.{Bus, Open, Line, Message, Tick, Take, Close}
+use Rattle.stream.specs.declared.fault.Fault.{Fault}
+use Rattle.stream.specs.declared.fault.Fault.TheVariants.{NoSuchRow}
+use Rattle.stream.specs.declared.verb.Verb.{Verb}
+use Rattle.stream.specs.declared.verb.Verb.TheVariants.{Bus, Open, Line, Message, Tick, Take, Close}
 
 abbrev pub name : Verb → List ℕ
 name Bus = codes "bus"
@@ -12,6 +14,10 @@ name Message = codes "message"
 name Tick = codes "tick"
 name Take = codes "take"
 name Close = codes "close"
+
+-- a word is read as the verb that it names, and refused where it names none
+abbrev pub Names : List ℕ → Result Verb Fault → Type 0
+Names word r = MatchResult r (λ v. word ≡ name v) (λ e. (e ≡ NoSuchRow) × ((v : Verb) → word ≢ name v))
 
 -- a word after the name is bytes
 abbrev pub Carries : Verb → Type 0

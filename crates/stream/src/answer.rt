@@ -1,10 +1,11 @@
 // Rows of answers.
 ghost use Rattle.std.specs.Prelude.{◌≡◌, ◌⊎◌, Some, Decides, slice_index};
-ghost use Rattle.stream.specs.Replies.{Accepted, Placed, Denied, Reads, said, spelled};
+ghost use Rattle.stream.specs.Replies.{Accepted, Placed, Denied, Reads, denied, said, spelled};
 ghost use Rattle.stream.specs.Text.{left};
 
 use crate::fault::Fault;
 use crate::hex::Hex;
+use crate::refusal::Refusal;
 use crate::words::Words;
 use std::alloc::Global;
 use std::fmt;
@@ -18,22 +19,38 @@ pub enum Form {
 }
 
 // The answer of a call.
-#[derive(Drop)]
+#[derive(PartialEq, Eq, Drop)]
 pub enum Answer {
     Done,
     Wrote(Vec<u8>),
     Routed { placed: u8, missed: u8 },
-    Refused(u8),
+    Refused(Refusal),
+    // numbers, since a recording may name a part or a cause that no message has
     Malformed { part: u8, cause: u8, byte: u16 },
 }
 
-// The refusal that says where a message is malformed.
+impl Answer {
+    // Whether the call was refused.
+    pub fn is_refused(&self) -> bool
+        ensures { result ≡ denied self.now }
+    {
+        match self {
+            Answer::Refused(_) | Answer::Malformed { .. } => true,
+            Answer::Done | Answer::Wrote(_) | Answer::Routed { .. } => false,
+        }
+    }
+}
+
+// The number of the refusal that says where a message is malformed.
 const MALFORMED: u8 = 7;
 
 fn read_done(words: &mut Words) -> Result<Answer, Fault>
     ensures { Accepted Form.Nothing (left words.old) result }
 {
-    let _zero = words.number(0)?;
+    let number: u8 = words.number()?;
+    if number != 0 {
+        return Err(Fault::BadNumber);
+    }
     words.end()?;
     Ok(Answer::Done)
 }
@@ -41,10 +58,10 @@ fn read_done(words: &mut Words) -> Result<Answer, Fault>
 fn read_wrote(heap: Global, words: &mut Words) -> Result<Answer, Fault>
     ensures { Accepted Form.Bytes (left words.old) result }
 {
-    let count = words.number(u16::MAX as u64)?;
+    let count: u16 = words.number()?;
     let bytes = words.bytes(heap)?;
     words.end()?;
-    if bytes.len() as u64 == count {
+    if bytes.len() == usize::from(count) {
         Ok(Answer::Wrote(bytes))
     } else {
         Err(Fault::WrongLength)
@@ -54,8 +71,8 @@ fn read_wrote(heap: Global, words: &mut Words) -> Result<Answer, Fault>
 fn read_routed(words: &mut Words) -> Result<Answer, Fault>
     ensures { Accepted Form.Counts (left words.old) result }
 {
-    let placed = words.number(u8::MAX as u64)? as u8;
-    let missed = words.number(u8::MAX as u64)? as u8;
+    let placed = words.number()?;
+    let missed = words.number()?;
     words.end()?;
     Ok(Answer::Routed { placed, missed })
 }
@@ -74,9 +91,9 @@ fn read_accepted(heap: Global, form: Form, words: &mut Words) -> Result<Answer, 
 fn read_malformed(words: &mut Words) -> Result<Answer, Fault>
     ensures { Placed (left words.old) result }
 {
-    let part = words.number(u8::MAX as u64)? as u8;
-    let cause = words.number(u8::MAX as u64)? as u8;
-    let byte = words.number(u16::MAX as u64)? as u16;
+    let part = words.number()?;
+    let cause = words.number()?;
+    let byte = words.number()?;
     words.end()?;
     Ok(Answer::Malformed { part, cause, byte })
 }
@@ -85,13 +102,11 @@ fn read_malformed(words: &mut Words) -> Result<Answer, Fault>
 fn read_refused(words: &mut Words) -> Result<Answer, Fault>
     ensures { Denied (left words.old) result }
 {
-    let refusal = words.number(14)? as u8;
-    if refusal == 0 {
-        return Err(Fault::BadNumber);
-    }
-    if refusal == MALFORMED {
+    let number: u8 = words.number()?;
+    if number == MALFORMED {
         return read_malformed(words);
     }
+    let refusal = Refusal::try_from(number)?;
     words.end()?;
     Ok(Answer::Refused(refusal))
 }
@@ -101,9 +116,7 @@ pub fn read_answer(heap: Global, form: Form, row: &[u8]) -> Result<Answer, Fault
     ensures { Reads form row.now result }
 {
     let mut words = Words::new(row);
-    let Some(mark) = words.word() else {
-        return Err(Fault::NoSuchRow);
-    };
+    let mark = words.next().ok_or(Fault::NoSuchRow)?;
     match mark {
         b"=" => read_accepted(heap, form, &mut words),
         b"!" => read_refused(&mut words),
@@ -122,27 +135,7 @@ pub fn is_answer(row: &[u8]) -> bool
 pub fn agrees(recorded: &Answer, came: &Answer) -> bool
     ensures { Decides result (said recorded.now ≡ said came.now) }
 {
-    match (recorded, came) {
-        (Answer::Done, Answer::Done) => true,
-        (Answer::Wrote(bytes), Answer::Wrote(others)) => bytes == others,
-        (
-            Answer::Routed { placed, missed },
-            Answer::Routed {
-                placed: p,
-                missed: m,
-            },
-        ) => { placed == p && missed == m }
-        (Answer::Refused(refusal), Answer::Refused(other)) => refusal == other,
-        (
-            Answer::Malformed { part, cause, byte },
-            Answer::Malformed {
-                part: p,
-                cause: c,
-                byte: b,
-            },
-        ) => part == p && cause == c && byte == b,
-        _ => false,
-    }
+    recorded == came
 }
 
 impl fmt::Display for Answer {
@@ -157,7 +150,7 @@ impl fmt::Display for Answer {
                 write!(f, "= {count} {hex}")
             }
             Answer::Routed { placed, missed } => write!(f, "= {placed} {missed}"),
-            Answer::Refused(number) => write!(f, "! {number}"),
+            Answer::Refused(refusal) => write!(f, "! {}", u8::from(*refusal)),
             Answer::Malformed { part, cause, byte } => write!(
                 f,
                 "! {MALFORMED} {part} {cause} {byte}"

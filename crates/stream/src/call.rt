@@ -1,11 +1,11 @@
 // Rows of calls.
-ghost use Rattle.std.specs.Prelude.{◌≡◌, MatchOption, ◌≢◌};
-ghost use Rattle.stream.specs.Calls.{Arguments, Reads, form_of};
+ghost use Rattle.std.specs.Prelude.{◌≡◌};
+ghost use Rattle.stream.specs.Calls.{Arguments, Reads, form_of, verb_of};
 ghost use Rattle.stream.specs.Text.{left};
-ghost use Rattle.stream.specs.Verbs.{name};
 
 use crate::answer::Form;
 use crate::fault::Fault;
+use crate::verb::Verb;
 use crate::words::Words;
 use std::alloc::Global;
 
@@ -42,6 +42,20 @@ pub enum Call {
 }
 
 impl Call {
+    pub fn verb(&self) -> Verb
+        ensures { result ≡ verb_of self.now }
+    {
+        match self {
+            Call::Bus { .. } => Verb::Bus,
+            Call::Open { .. } => Verb::Open,
+            Call::Line { .. } => Verb::Line,
+            Call::Message { .. } => Verb::Message,
+            Call::Tick { .. } => Verb::Tick,
+            Call::Take { .. } => Verb::Take,
+            Call::Close { .. } => Verb::Close,
+        }
+    }
+
     // What the answer holds where the call is accepted; `bus` has none.
     pub fn form(&self) -> Option<Form>
         ensures { result ≡ form_of self.now }
@@ -55,37 +69,13 @@ impl Call {
     }
 }
 
-// The first word of a call.
-#[derive(Clone, Copy)]
-pub(crate) enum Verb {
-    Bus,
-    Open,
-    Line,
-    Message,
-    Tick,
-    Take,
-    Close,
-}
-
-fn verb_named(word: &[u8]) -> Option<Verb>
-    ensures { MatchOption result ((v : Verb) → word.now ≢ name v) (λ v. word.now ≡ name v) }
-{
-    match word {
-        b"bus" => Some(Verb::Bus),
-        b"open" => Some(Verb::Open),
-        b"line" => Some(Verb::Line),
-        b"message" => Some(Verb::Message),
-        b"tick" => Some(Verb::Tick),
-        b"take" => Some(Verb::Take),
-        b"close" => Some(Verb::Close),
-        _ => None,
-    }
-}
-
 fn read_bus(heap: Global, words: &mut Words) -> Result<Call, Fault>
     ensures { Arguments Verb.Bus (left words.old) result }
 {
-    let limit = words.number(16)? as u8;
+    let limit = words.number()?;
+    if limit > 16 {
+        return Err(Fault::BadNumber);
+    }
     let bytes = words.bytes(heap)?;
     words.end()?;
     match <[u8; 16]>::try_from(bytes.as_slice()) {
@@ -97,8 +87,8 @@ fn read_bus(heap: Global, words: &mut Words) -> Result<Call, Fault>
 fn read_open(words: &mut Words) -> Result<Call, Fault>
     ensures { Arguments Verb.Open (left words.old) result }
 {
-    let connection = words.number(u8::MAX as u64)? as u8;
-    let uid = words.number(u32::MAX as u64)? as u32;
+    let connection = words.number()?;
+    let uid = words.number()?;
     words.end()?;
     Ok(Call::Open { connection, uid })
 }
@@ -106,9 +96,9 @@ fn read_open(words: &mut Words) -> Result<Call, Fault>
 fn read_line(heap: Global, words: &mut Words) -> Result<Call, Fault>
     ensures { Arguments Verb.Line (left words.old) result }
 {
-    let connection = words.number(u8::MAX as u64)? as u8;
+    let connection = words.number()?;
     let bytes = words.bytes(heap)?;
-    let size = words.number(u16::MAX as u64)? as u16;
+    let size = words.number()?;
     words.end()?;
     Ok(Call::Line {
         connection,
@@ -120,7 +110,7 @@ fn read_line(heap: Global, words: &mut Words) -> Result<Call, Fault>
 fn read_message(heap: Global, words: &mut Words) -> Result<Call, Fault>
     ensures { Arguments Verb.Message (left words.old) result }
 {
-    let connection = words.number(u8::MAX as u64)? as u8;
+    let connection = words.number()?;
     let bytes = words.bytes(heap)?;
     words.end()?;
     Ok(Call::Message { connection, bytes })
@@ -129,7 +119,7 @@ fn read_message(heap: Global, words: &mut Words) -> Result<Call, Fault>
 fn read_tick(words: &mut Words) -> Result<Call, Fault>
     ensures { Arguments Verb.Tick (left words.old) result }
 {
-    let time = words.number(u64::MAX)?;
+    let time = words.number()?;
     words.end()?;
     Ok(Call::Tick { time })
 }
@@ -137,8 +127,8 @@ fn read_tick(words: &mut Words) -> Result<Call, Fault>
 fn read_take(words: &mut Words) -> Result<Call, Fault>
     ensures { Arguments Verb.Take (left words.old) result }
 {
-    let connection = words.number(u8::MAX as u64)? as u8;
-    let size = words.number(u16::MAX as u64)? as u16;
+    let connection = words.number()?;
+    let size = words.number()?;
     words.end()?;
     Ok(Call::Take { connection, size })
 }
@@ -146,7 +136,7 @@ fn read_take(words: &mut Words) -> Result<Call, Fault>
 fn read_close(words: &mut Words) -> Result<Call, Fault>
     ensures { Arguments Verb.Close (left words.old) result }
 {
-    let connection = words.number(u8::MAX as u64)? as u8;
+    let connection = words.number()?;
     words.end()?;
     Ok(Call::Close { connection })
 }
@@ -171,11 +161,6 @@ pub fn read_call(heap: Global, row: &[u8]) -> Result<Call, Fault>
     ensures { Reads row.now result }
 {
     let mut words = Words::new(row);
-    let Some(word) = words.word() else {
-        return Err(Fault::NoSuchRow);
-    };
-    match verb_named(word) {
-        Some(verb) => read_arguments(heap, verb, &mut words),
-        None => Err(Fault::NoSuchRow),
-    }
+    let word = words.next().ok_or(Fault::NoSuchRow)?;
+    read_arguments(heap, Verb::try_from(word)?, &mut words)
 }

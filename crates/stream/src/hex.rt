@@ -5,9 +5,9 @@ ghost use Rattle.stream.specs.Spelling.{hex};
 use hex_digits::pair;
 use std::fmt;
 
-// Bytes that are shown as a word of a row.
-#[derive(Clone, Copy)]
-pub(crate) struct Hex<'a>(pub(crate) &'a [u8]);
+// Bytes that are shown as a word of a row: each as two lower-case hex digits, or `-` for none.
+#[derive(Clone, Copy, Debug)]
+pub struct Hex<'a>(pub &'a [u8]);
 
 impl fmt::Display for Hex<'_> {
     ghost output = { λ x. Some (hex x.0.now) };
@@ -17,6 +17,7 @@ impl fmt::Display for Hex<'_> {
         if bytes.is_empty() {
             return f.write_str("-");
         }
+        // Not `{b:02x}`: its proof needs that each byte is below 256, which is not known of a slice in a field.
         for b in bytes {
             let [high, low] = pair(*b);
             f.write_char(char::from(high))?;

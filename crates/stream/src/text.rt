@@ -1,64 +1,50 @@
 // The text of a row: its words, numbers and bytes.
-ghost use Rattle.std.specs.Prelude.{◌≡◌, ℕ, ◌^◌, ◌<◌, ◌≤◌, List, length, decimal, MatchOption, MatchResult, ◌≢◌, slice_index};
+ghost use Rattle.std.specs.Prelude.{◌≡◌, ℕ, ◌^◌, ◌<◌, List, length, decimal, MatchOption, MatchResult, ◌≢◌, slice_index};
 ghost use Rattle.hex_digits.specs.Hex.{digit};
-ghost use Rattle.stream.specs.Spelling.{hex, Bytes};
+ghost use Rattle.stream.specs.Spelling.{hex, Bytes, Without};
 ghost use Rattle.stream.specs.Text.{Content};
-ghost use Rattle.stream.specs.declared.fault.Fault.TheVariants.{OutOfMemory};
+ghost use Rattle.stream.specs.declared.fault.Fault.TheVariants.{BadHex, OutOfMemory};
 
 use crate::fault::Fault;
 use std::alloc::Global;
 
-// The index of the first `byte` of `text`, or the length of `text` where there is none.
-pub(crate) fn find(text: &[u8], byte: u8) -> usize
-    ensures within { result ≤ length text.now }
-    ensures before { (k : ℕ) → k < result → slice_index text.now k ≢ byte }
-    ensures found { result < length text.now → slice_index text.now result ≡ byte }
+// The index of the first `byte` of `text`.
+pub(crate) fn find(text: &[u8], byte: u8) -> Option<usize>
+    ensures { MatchOption result (Without byte text.now) (λ i. (i < length text.now) × (slice_index text.now i ≡ byte) × ((k : ℕ) → k < i → slice_index text.now k ≢ byte)) }
 {
-    for (i, x) in text.iter().enumerate() {
-        if *x == byte {
-            return i;
-        }
-    }
-    text.len()
+    text.iter().position(|x| *x == byte)
 }
 
 // A row without its comment, and without the spaces before that or at its end.
 pub fn content(row: &[u8]) -> &[u8]
     ensures { Content row.now result.now }
 {
-    let mark = find(row, b'#');
-    let mut end = mark;
-    while end > 0 && row[end - 1] == b' ' {
-        end -= 1;
+    let mark = find(row, b'#').unwrap_or(row.len());
+    let mut text = &row[..mark];
+    while let [front @ .., b' '] = text {
+        text = front;
     }
-    &row[0..end]
+    text
 }
 
 // The number that `text` writes in decimal, without leading zeros.
 pub(crate) fn number(text: &[u8]) -> Option<u64>
     ensures { MatchOption result ((n : ℕ) → n < 2 ^ 64 → text.now ≢ decimal n) (λ n. (n < 2 ^ 64) × (text.now ≡ decimal n)) }
 {
-    let first = *text.first()?;
-    if first == b'+' {
-        return None;
-    }
-    if first == b'0' && text.len() > 1 {
-        return None;
-    }
-    match std::str::from_utf8(text) {
-        Ok(digits) => digits.parse::<u64>().ok(),
-        Err(_) => None,
+    match text {
+        [] | [b'+', ..] | [b'0', _, ..] => None,
+        _ => std::str::from_utf8(text).ok()?.parse::<u64>().ok(),
     }
 }
 
 // The value of a lower-case hex digit.
-fn nibble(c: u8) -> Option<u8>
-    ensures { MatchOption result ((d : ℕ) → d < 16 → c ≢ digit d) (λ d. (d < 16) × (c ≡ digit d)) }
+fn nibble(c: u8) -> Result<u8, Fault>
+    ensures { MatchResult result (λ d. (d < 16) × (c ≡ digit d)) (λ e. (e ≡ BadHex) × ((d : ℕ) → d < 16 → c ≢ digit d)) }
 {
     match c {
-        b'0'..=b'9' => Some(c - b'0'),
-        b'a'..=b'f' => Some(c - b'a' + 10),
-        _ => None,
+        b'0'..=b'9' => Ok(c - b'0'),
+        b'a'..=b'f' => Ok(c - b'a' + 10),
+        _ => Err(Fault::BadHex),
     }
 }
 
@@ -74,15 +60,11 @@ pub fn unhex(heap: Global, text: &[u8]) -> Result<Vec<u8>, Fault>
         return Err(Fault::BadHex);
     }
     let mut rest = text;
-    while rest.len() > 1 {
-        let Some(high) = nibble(rest[0]) else {
-            return Err(Fault::BadHex);
-        };
-        let Some(low) = nibble(rest[1]) else {
-            return Err(Fault::BadHex);
-        };
+    while let [high, low, left @ ..] = rest {
+        let high = nibble(*high)?;
+        let low = nibble(*low)?;
         bytes.push(high * 16 + low)?;
-        rest = &rest[2..];
+        rest = left;
     }
     if rest.is_empty() {
         Ok(bytes)

@@ -8,7 +8,7 @@ returns-in_err-placed c =
     stopped (Accepted _ _) c.from_residual.result _ c.from_residual.ensures.1 (
       λ o. absurd (c.in_err-placed.ensures.0 o),
       λ ne s.
-          c.in_err-placed.ensures.1 s.0 (decimal s.1 ∷ []) (omega arith) s.4,
+          c.in_err-placed.ensures.1 s.0 (decimal s.1 ∷ []) (omega arith) (omega arith) s.4,
     )
 
 pub returns-in_err-missed : goal.returns-in_err-missed
@@ -16,5 +16,5 @@ returns-in_err-missed c =
     stopped (Accepted _ _) c.from_residual-in_err-missed.result _ c.from_residual-in_err-missed.ensures.1 (
       λ o. absurd (c.in_err-missed.ensures.0 o),
       λ ne s.
-          c.in_err-missed.ensures.1 s.1 [] (omega arith) (rest_same c.in_ok-placed.ensures.1 s.4),
+          c.in_err-missed.ensures.1 s.1 [] (omega arith) (omega arith) (rest_same c.in_ok-placed.ensures.1 s.4),
     )

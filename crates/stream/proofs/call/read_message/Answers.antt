@@ -1,16 +1,12 @@
 use Rattle.std.proofs.Common.{[], ◌∷◌, arith}
 use Rattle.stream.specs.Spelling.{hex}
 use Rattle.stream.specs.Calls.{Arguments}
-use Rattle.stream.proofs.Exits.{stopped, rest_same}
+use Rattle.stream.proofs.Exits.{no_argument, stopped, rest_same}
 use Rattle.stream.proofs.call.read_message.Goals as goal
 
 pub returns-in_err-connection : goal.returns-in_err-connection
 returns-in_err-connection c =
-    stopped (Arguments _ _) c.from_residual.result _ c.from_residual.ensures.1 (
-      λ o. absurd (c.in_err-connection.ensures.0 o),
-      λ ne s.
-          c.in_err-connection.ensures.1 s.0 (hex s.1 ∷ []) (omega arith) s.4,
-    )
+    no_argument _ _ c.from_residual.result c.from_residual.ensures.1 c.in_err-connection.ensures (λ s. (s.0, (hex s.1 ∷ []), omega arith, omega arith, s.4))
 
 pub returns-in_err-bytes : goal.returns-in_err-bytes
 returns-in_err-bytes c =

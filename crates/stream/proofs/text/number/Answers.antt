@@ -1,32 +1,33 @@
-use Rattle.std.proofs.Common.{sym, ◌∙◌, arith}
-use Rattle.stream.proofs.Numbers.{parsed, at_first, no_none, no_plus, no_lead, no_utf8}
+use Rattle.std.proofs.Common.{◌≡◌, length, get_or, arith, rules}
+use Rattle.stream.proofs.Numbers.{parsed, no_none, no_plus, no_lead, no_utf8, of_none, of_some}
 use Rattle.stream.proofs.text.number.Goals as goal
-use Rattle.stream.proofs.text.number.Goals.{else-first-eq48-via-then-first-eq48+else-text-gt1, else-first-eq48-via-else-first-eq48}
+use Rattle.stream.proofs.text.number.Goals.{in_default-via-then-text-lt2+in_default-1, in_default-via-else-text-lt2+in_default-1}
 
-pub returns-in_err-first : goal.returns-in_err-first
-returns-in_err-first c = rw c.from_residual.ensures (no_none c.args.text.now (omega (arith, c.in_err-first.ensures.item)))
+pub returns-in-empty : goal.returns-in-empty
+returns-in-empty c = no_none c.args.text.now (omega (arith, c.in-empty.len_below))
 
-pub returns-then-first-eq43 : goal.returns-then-first-eq43
-returns-then-first-eq43 c =
-    let a = at_first c.args.text.now c.in_ok-first.field-0 c.in_ok-first.ensures.item in
-    no_plus c.args.text.now a.0 (a.1 ∙ c.if-first-eq43.true)
+pub returns-in-empty-2 : goal.returns-in-empty-2
+returns-in-empty-2 c = no_plus c.args.text.now (omega (arith, c.in-empty.len_at_least)) (search rules)
 
-pub returns-then-text-gt1 : goal.returns-then-text-gt1
-returns-then-text-gt1 c =
-    let a = at_first c.args.text.now c.in_ok-first.field-0 c.in_ok-first.ensures.item in
-    no_lead c.args.text.now (omega arith) (a.1 ∙ c.if-first-eq48.true)
+pub returns-in-empty-3 : goal.returns-in-empty-3
+returns-in-empty-3 c = no_plus c.args.text.now (omega (arith, c.in-empty.len_at_least)) (search rules)
 
-pub returns-in-Err : goal.returns-in-Err
-returns-in-Err c = no_utf8 c.args.text.now c.in-Err.ensures.cases.0
+pub returns-in-empty-4 : goal.returns-in-empty-4
+returns-in-empty-4 c = no_lead c.args.text.now (omega (arith, c.in-empty.len_at_least)) (search rules)
 
-pub returns-in-Ok : goal.returns-in-Ok
-returns-in-Ok c =
-    let a = at_first c.args.text.now c.in_ok-first.field-0 c.in_ok-first.ensures.item in
-    let r = parsed _ c.args.text.now c.parse.result
-    (rw c.in-Ok.ensures.cases.0 at c.parse.ensures.value.0)
-    (λ e. c.if-first-eq43.false (sym a.1 ∙ e))
-    (λ e. elim c.else-first-eq48.branch [
-      | else-first-eq48-via-then-first-eq48+else-text-gt1 w ↦ omega (arith, w.if-text-gt1.false, a.0)
-      | else-first-eq48-via-else-first-eq48 w ↦ absurd (w.if-first-eq48.false (sym a.1 ∙ e))
-    ]) in
-    rw c.ok.ensures.value r
+pub returns-in_err-ok-in_default : goal.returns-in_err-ok-in_default
+returns-in_err-ok-in_default c =
+    rw c.from_residual.ensures (no_utf8 c.args.text.now (of_none _ _ c.from_utf8.result c.from_utf8.ensures.cases c.in_err-ok-in_default.ensures.value).1.0)
+
+pub returns-in_ok-ok-in_default : goal.returns-in_ok-ok-in_default
+returns-in_ok-ok-in_default c =
+    let plus : get_or c.args.text.now 0 0 ≡ 43 → ⊥ = elim c.in_default.branch [
+      | in_default-via-then-text-lt2+in_default-1 w ↦ search rules
+      | in_default-via-else-text-lt2+in_default-1 w ↦ search rules
+    ] in
+    let zero : get_or c.args.text.now 0 0 ≡ 48 → length c.args.text.now ≡ 1 = elim c.in_default.branch [
+      | in_default-via-then-text-lt2+in_default-1 w ↦ λ e. grind arith
+      | in_default-via-else-text-lt2+in_default-1 w ↦ λ e. grind arith
+    ] in
+    let e = of_some _ _ c.from_utf8.result c.in_ok-ok-in_default.field-0 c.from_utf8.ensures.cases c.in_ok-ok-in_default.ensures.value in
+    rw c.ok-in_default.ensures.value (parsed _ c.args.text.now c.parse.result (rw e.0 at c.parse.ensures.value.0) plus zero)
