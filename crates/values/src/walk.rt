@@ -9,7 +9,7 @@ ghost use Rattle.values.specs.Walks.{Owed, Of, Somewhere, Moved, Stepped, Passed
 use area::front;
 use items::{Flaw, array, basic, structure, type_code};
 use order::ByteOrder;
-use signature::{Alignment, Basic, Head, element_end, head_of};
+use signature::{Alignment, Basic, Head, element_end};
 
 // An array, struct, dict entry or variant around the place where a walk stands.
 #[derive(Clone, Copy)]
@@ -40,9 +40,9 @@ pub struct Walk {
 fn alignment_of(code: u8) -> Alignment
     ensures { (h : HeadOf) → head_code h ≡ code → result ≡ align h }
 {
-    match head_of(code) {
-        Some(head) => head.alignment(),
-        None => Alignment::One,
+    match Head::try_from(code) {
+        Ok(head) => head.alignment(),
+        Err(_) => Alignment::One,
     }
 }
 
@@ -136,13 +136,13 @@ impl Walk {
         ensures goes { Stepped O.ByteOrder.ordered bytes.now self.old self.new result }
         ensures falls { is_ok result ≡ true → weight (length bytes.now) self.new < weight (length bytes.now) self.old }
     {
-        match head_of(bytes[self.code]) {
-            Some(Head::Basic(kind)) => self.basic::<O>(bytes, kind),
-            Some(Head::Variant) => self.variant::<O>(bytes),
-            Some(Head::Array) => self.array::<O>(bytes),
-            Some(Head::Struct) => self.structure::<O>(bytes),
-            Some(Head::Entry) => self.structure::<O>(bytes),
-            None => unreachable(),
+        match Head::try_from(bytes[self.code]) {
+            Ok(Head::Basic(kind)) => self.basic::<O>(bytes, kind),
+            Ok(Head::Variant) => self.variant::<O>(bytes),
+            Ok(Head::Array) => self.array::<O>(bytes),
+            Ok(Head::Struct) => self.structure::<O>(bytes),
+            Ok(Head::Entry) => self.structure::<O>(bytes),
+            Err(_) => unreachable(),
         }
     }
 
