@@ -7,7 +7,7 @@ ghost use Rattle.signature.specs.Trees.{Element, spell_element};
 ghost use Rattle.values.specs.Walks.{Owed, Of, Somewhere, Moved, Stepped, Passed, weight};
 
 use area::front;
-use items::{Flaw, array, basic, structure, type_code};
+use items::{Flaw, Place};
 use order::ByteOrder;
 use signature::{Alignment, Basic, Head, element_end};
 
@@ -66,7 +66,12 @@ impl Walk {
         ensures goes { Stepped O.ByteOrder.ordered bytes.now self.old self.new result }
         ensures falls { is_ok result ≡ true → weight (length bytes.now) self.new < weight (length bytes.now) self.old }
     {
-        let at = basic::<O>(front(bytes, self.end), self.at, kind, self.depth)?;
+        let place = Place {
+            area: front(bytes, self.end),
+            at: self.at,
+            around: self.depth,
+        };
+        let at = place.basic::<O>(kind)?;
         self.at = at;
         self.code += 1;
         self.past = true;
@@ -80,7 +85,12 @@ impl Walk {
         ensures goes { Stepped O.ByteOrder.ordered bytes.now self.old self.new result }
         ensures falls { is_ok result ≡ true → weight (length bytes.now) self.new < weight (length bytes.now) self.old }
     {
-        let at = structure(front(bytes, self.end), self.at, self.depth)?;
+        let place = Place {
+            area: front(bytes, self.end),
+            at: self.at,
+            around: self.depth,
+        };
+        let at = place.structure()?;
         self.frames[self.depth] = Frame::Struct;
         self.depth += 1;
         self.code += 1;
@@ -98,7 +108,12 @@ impl Walk {
         let element = self.code + 1;
         let alignment = alignment_of(bytes[element]);
         let outer = self.end;
-        let span = array::<O>(front(bytes, outer), self.at, alignment, self.depth)?;
+        let place = Place {
+            area: front(bytes, outer),
+            at: self.at,
+            around: self.depth,
+        };
+        let span = place.array::<O>(alignment)?;
         self.at = span.from;
         if span.from < span.to {
             self.frames[self.depth] = Frame::Array { element, outer };
@@ -119,7 +134,12 @@ impl Walk {
         ensures goes { Stepped O.ByteOrder.ordered bytes.now self.old self.new result }
         ensures falls { is_ok result ≡ true → weight (length bytes.now) self.new < weight (length bytes.now) self.old }
     {
-        let at = type_code(front(bytes, self.end), self.at, self.depth)?;
+        let place = Place {
+            area: front(bytes, self.end),
+            at: self.at,
+            around: self.depth,
+        };
+        let at = place.type_code()?;
         self.frames[self.depth] = Frame::Variant {
             codes: self.code + 1,
         };
