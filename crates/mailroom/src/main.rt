@@ -71,7 +71,10 @@ fn told(heap: Global, line: &Line, outcome: Outcome, taken: &[u8]) -> Result<Str
     match (line, outcome) {
         (Line::Put(c, _), Outcome::Put(Ok(()))) => format!(in heap; "put {c}: ok"),
         (Line::Put(c, _), Outcome::Put(Err(refusal))) => format!(in heap; "put {c}: {refusal}"),
-        (Line::Take(c, _), Outcome::Taken(Ok(n))) => format!(in heap; "take {c}: {n} {}", Hex(taken)),
+        (Line::Take(c, _), Outcome::Taken(Ok(n))) => format!(in heap;
+            "take {c}: {n} {}",
+            Hex(taken)
+        ),
         (Line::Take(c, _), Outcome::Taken(Err(refusal))) => format!(in heap; "take {c}: {refusal}"),
         (Line::Count(c), Outcome::Counted(n)) => format!(in heap; "count {c}: {n}"),
         (Line::Clear(c), _) => format!(in heap; "clear {c}"),
@@ -173,7 +176,7 @@ fn play_input(rt: &HostRuntime) -> anyhow::Result<Score> {
         room = Some(
             played
                 .ok_or(Wrong::NoLimit)
-                .context(format_args!("line {number}"))?
+                .context(format_args!("line {number}"))?,
         );
     }
     if let Some(room) = &room {
