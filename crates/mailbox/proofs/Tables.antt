@@ -2,12 +2,14 @@
 use Rattle.std.proofs.Common.{◌≡◌, ℕ, ◌<◌, ◌≤◌, cond, leb, List, [], ◌∷◌, ◌++◌, length, drop, set, Ok, Err, Result, sym, ap, ◌∙◌, ⊎_elim, arith}
 use Rattle.std.proofs.lemmas.List.FromFn.{length-map-range_with_len, get_or-map-range_with_len, fill_by_all}
 use Rattle.std.proofs.lemmas.List.{get_or_past, get_or-set_same, get_or-set_other, length-set, set_past, set-get_or}
-use Rattle.std.proofs.lemmas.Bool.{cases_eq, le-leb, lt-leb, le-ltb, ne_eqb, cond-true, cond-false, or_from}
+use Rattle.std.specs.List.{All}
+use Rattle.std.proofs.lemmas.List.Elements.{All-get_or}
+use Rattle.std.proofs.lemmas.Bool.{cases_eq, cases_lt, le-leb, lt-leb, le-ltb, ne_eqb, cond-true, cond-false, or_from}
 use Rattle.connection.specs.declared.Connection.{Connection}
 use Rattle.mailbox.specs.declared.Refusal.{Refusal}
 use Rattle.mailbox.specs.declared.Refusal.TheVariants.{Full, ShortBuffer}
 use Rattle.mailbox.specs.declared.message.Message.{Message}
-use Rattle.mailbox.specs.Lists.{Lists, waiting, tabled, put_answer, added, put_after, take_answer, taken, take_after, take_buffer, clear_after}
+use Rattle.mailbox.specs.Lists.{Lists, Laws, IsSize, waiting, tabled, put_answer, added, put_after, take_answer, taken, take_after, take_buffer, clear_after}
 
 -- what fullness alone decides
 put_free : (bound : ℕ) (ls : Lists) (c : ℕ) (m : List ℕ) → c < 16 → 0 < length m → length m ≤ 1024 → put_answer bound ls c m ≡ cond (leb bound (length (waiting ls c))) (Err Full) (Ok tt)
@@ -111,3 +113,17 @@ module _ (f : ℕ → List (List ℕ)) where
             set_is g (taken (waiting (tabled f) c) (length b)) (sym (ap (λ (w : List (List ℕ)). taken w (length b)) e ∙ cond-true _ ms (m ∷ ms) t)) other,
             sym (ap (λ (w : List (List ℕ)). take_buffer w b) e ∙ cond-true _ (m ++ drop (length m) b) b t),
           )
+
+-- the laws, from what holds of the list of each connection
+pub laws_of : {S : Type 0} (f : S → ℕ → List (List ℕ)) (bound : S → ℕ) → ((s : S) (c : ℕ) → c < 16 → length (f s c) ≤ bound s) → ((s : S) (c : ℕ) → c < 16 → All (λ m. IsSize (length m)) (f s c)) → Laws (λ s. tabled (f s)) bound
+laws_of f bound fills sizes = record {
+  sixteen = λ s. tabled_length (f s);
+  within = λ s c. ⊎_elim
+      (λ (h : c < 16). rw (tabled_at (f s) c h) (fills s c h))
+      (λ h. omega (arith, ap length (tabled_past (f s) c h)))
+      (cases_lt c 16);
+  sized = λ s c p hp. ⊎_elim
+      (λ (h : c < 16). let e = tabled_at (f s) c h in rw e (All-get_or (λ m. IsSize (length m)) (f s c) p [] (rw e at hp) (sizes s c h)))
+      (λ h. absurd (omega (arith, ap length (tabled_past (f s) c h))))
+      (cases_lt c 16);
+}

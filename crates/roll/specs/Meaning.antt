@@ -14,3 +14,7 @@ waits s c = messages c (row s)
 
 abbrev pub lists_of : Roll → Lists
 lists_of s = tabled (waits s)
+
+-- how many messages may wait for one connection
+abbrev pub limit_of : Roll → ℕ
+limit_of s = s.limit

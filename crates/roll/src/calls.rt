@@ -1,7 +1,7 @@
 // The calls of a roll.
 ghost use Rattle.std.specs.Prelude.{◌≡◌, ◌/◌, min, [], replicate, vec_len};
-ghost use Rattle.roll_records.proofs.Rows.{roll_laws};
-ghost use Rattle.roll.specs.Meaning.{lists_of};
+ghost use Rattle.roll.specs.Meaning.{lists_of, limit_of};
+ghost use Rattle.roll.specs.Laws.{laws};
 
 use super::Roll;
 use super::layout::{PLACE, message_of};
@@ -12,7 +12,7 @@ use mailbox::{MailboxSet, Message, Refusal, limit_for};
 impl Roll {
     // An empty roll over an area, whatever that holds.
     pub fn over(area: Vec<u8>) -> Roll
-        ensures limit { result.limit ≡ min 16 (vec_len area / 16432) }
+        ensures limit { limit_of result ≡ min 16 (vec_len area / 16432) }
         ensures empty { lists_of result ≡ replicate 16 [] }
     {
         let limit = limit_for(area.len(), PLACE);
@@ -29,9 +29,9 @@ impl Roll {
 impl MailboxSet for Roll {
     ghost lists = { lists_of };
 
-    ghost bound = { λ s. s.limit };
+    ghost bound = { limit_of };
 
-    ghost laws = { roll_laws (λ s. s.limit) (λ s. s.records) (λ s. s.counts) (λ s. s.area.items) (λ s. s.sound) (λ s. s.tallied) (λ s. s.fills) };
+    ghost laws = { laws };
 
     fn limit(&self) -> usize {
         self.limit

@@ -10,7 +10,7 @@ use mailbox::{LONGEST, Message};
 // What stands before a message.
 pub(super) const HEAD: usize = 3;
 
-// What a longest message for each connection takes.
+// The bytes of one longest message of each connection.
 pub(super) const PLACE: usize = CONNECTIONS * (HEAD + LONGEST);
 
 // Where a record begins, and how long its message is.

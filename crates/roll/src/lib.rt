@@ -17,7 +17,7 @@ pub struct Roll {
     area: Vec<u8>,
     // how many messages may wait for one connection
     limit: usize,
-    // how many bytes and how many records the row has
+    // how many bytes and how many records the row has; beside the area, since that is the host's and keeps its length
     used: usize,
     records: usize,
     // how many of the records each connection has

@@ -1,13 +1,13 @@
 -- Laws of rows of records.
 use Rattle.std.proofs.Common.{◌≡◌, ℕ, zero, suc, ◌+◌, ◌-◌, ◌*◌, ◌/◌, ◌%◌, ◌<◌, ◌≤◌, true, false, cond, eqb, List, [], ◌∷◌, ◌++◌, length, get_or, take, drop, set, sym, refl, ap, ◌∙◌, ap₂, subst, ⊎_elim, append_assoc, div-add-mod', arith}
 use lib.Seq.{paste}
-use Rattle.std.proofs.lemmas.List.{append-nil, drop_all, drop_at, drop-drop, drop_more, get_or-drop, get_or_past, get_or-set_same, get_or-set_other, length-append, length-drop, length_push, take_at}
-use Rattle.std.specs.List.{All}
-use Rattle.std.proofs.lemmas.List.Elements.{All-get_or}
+use Rattle.std.proofs.lemmas.List.{append-nil, drop_all, drop_at, drop-drop, drop_more, get_or-drop, get_or_past, get_or-set_same, get_or-set_other, length-append, length-drop, length-set, length_push, take_at}
+use Rattle.std.specs.List.{All, sum_by}
+use Rattle.std.proofs.lemmas.List.Elements.{All-cons, All-from_get_or, All-get_or, All-head, All-push, All-set, All-tail}
+use Rattle.std.proofs.lemmas.List.Sums.{sum_by-le, sum_by-set}
 use Rattle.std.proofs.lemmas.Bool.{cases_Bool, cases_eq, cases_lt, cond-true, cond-false, eqb-true, eq-eqb, ne_eqb}
 use Rattle.area.specs.Writes.{written}
-use Rattle.mailbox.specs.Lists.{Laws, tabled}
-use Rattle.mailbox.proofs.Tables.{tabled_length, tabled_at, tabled_past}
+use Rattle.mailbox.specs.Lists.{IsSize}
 use Rattle.roll_records.specs.Records.{Record, record_of, head, encode, length_at, decode, messages, before, behind, without, Laid, Good, Sound, Tallied, First}
 
 size_of : (m : List ℕ) → length m % 256 + length m / 256 * 256 ≡ length m
@@ -122,76 +122,32 @@ before_step c r rs ne = rw (ne_eqb r.connection c ne) (omega (arith, length-appe
 pub before_stop : (c : ℕ) (r : Record) (rs : List Record) → r.connection ≡ c → length (encode (before c (r ∷ rs))) ≡ 0
 before_stop c r rs e = rw (eq-eqb r.connection c e)
 
--- Sound
-
-sound_tail : (r : Record) (rs : List Record) → Sound (r ∷ rs) → Sound rs
-sound_tail r rs s k h = s (suc k) (omega arith)
-
-sound_cons : (r : Record) (rs : List Record) → Good r → Sound rs → Sound (r ∷ rs)
-sound_cons r rs g s zero h = g
-sound_cons r rs g s (suc k) h = s k (omega arith)
-
-pub sound_push : (rs : List Record) (r : Record) → Sound rs → Good r → Sound (rs ++ (r ∷ []))
-sound_push [] r s g = sound_cons r [] g (λ k h. absurd (omega arith))
-sound_push (x ∷ rs) r s g = sound_cons x (rs ++ (r ∷ [])) (s 0 (omega arith)) (sound_push rs r (sound_tail x rs s) g)
-
-pub sound_without : (c : ℕ) (rs : List Record) → Sound rs → Sound (without c rs)
+sound_without : (c : ℕ) (rs : List Record) → Sound rs → Sound (without c rs)
 sound_without c [] s = s
 sound_without c (r ∷ rs) s =
+    let rest = All-tail Good r rs s in
     ⊎_elim
-    (λ (t : eqb r.connection c ≡ true). rw t (sound_tail r rs s))
-    (λ f. rw f (sound_cons r (without c rs) (s 0 (omega arith)) (sound_without c rs (sound_tail r rs s))))
+    (λ (t : eqb r.connection c ≡ true). rw t rest)
+    (λ f. rw f (All-cons Good r (without c rs) (All-head Good r rs s) (sound_without c rs rest)))
     (cases_Bool (eqb r.connection c))
 
-sized_messages : (c : ℕ) (rs : List Record) → Sound rs → (p : ℕ) → p < length (messages c rs) → (0 < length (get_or (messages c rs) p [])) × (length (get_or (messages c rs) p []) ≤ 1024)
-sized_messages c [] s p h = absurd (omega arith)
-sized_messages c (r ∷ rs) s p h =
+pub sized_messages : (c : ℕ) (rs : List Record) → Sound rs → All (λ m. IsSize (length m)) (messages c rs)
+sized_messages c [] s = λ k d h. absurd (omega arith)
+sized_messages c (r ∷ rs) s =
+    let g = All-head Good r rs s in
+    let rest = sized_messages c rs (All-tail Good r rs s) in
     ⊎_elim
-    (λ (t : eqb r.connection c ≡ true). rw t (sized_at r.message (messages c rs) ((s 0 (omega arith)).1, (s 0 (omega arith)).2) (sized_messages c rs (sound_tail r rs s)) p (rw t at h)))
-    (λ (f : eqb r.connection c ≡ false). rw f (sized_messages c rs (sound_tail r rs s) p (rw f at h)))
+    (λ (t : eqb r.connection c ≡ true). rw t (All-cons (λ m. IsSize (length m)) r.message (messages c rs) (g.1, g.2) rest))
+    (λ f. rw f rest)
     (cases_Bool (eqb r.connection c))
-  where
-    sized_at : (m : List ℕ) (ms : List (List ℕ)) → (0 < length m) × (length m ≤ 1024) → ((p : ℕ) → p < length ms → (0 < length (get_or ms p [])) × (length (get_or ms p []) ≤ 1024)) → (p : ℕ) → p < length (m ∷ ms) → (0 < length (get_or (m ∷ ms) p [])) × (length (get_or (m ∷ ms) p []) ≤ 1024)
-    sized_at m ms a b zero h = a
-    sized_at m ms a b (suc p) h = b p (omega arith)
 
 -- how long a row is
 
 encode_size : (rs : List Record) → Sound rs → length (encode rs) ≤ 1027 * length rs
 encode_size [] s = omega arith
-encode_size (r ∷ rs) s = let g = s 0 (omega arith) in omega (arith, length-append r.message (encode rs), encode_size rs (sound_tail r rs s))
-
-abbrev sum_to : ℕ → (ℕ → ℕ) → ℕ
-sum_to zero f = 0
-sum_to (suc n) f = f n + sum_to n f
-
-sum_bump : (n c : ℕ) (f g : ℕ → ℕ) → c < n → g c ≡ f c + 1 → ((k : ℕ) → (k ≡ c → ⊥) → g k ≡ f k) → sum_to n g ≡ sum_to n f + 1
-sum_bump zero c f g h a b = absurd (omega arith)
-sum_bump (suc n) c f g h a b =
-    ⊎_elim
-    (λ (e : n ≡ c). omega (arith, ap g e, ap f e, sum_same n c f g (omega arith) b))
-    (λ ne. omega (arith, b n ne, sum_bump n c f g (omega arith) a b))
-    (cases_eq n c)
-  where
-    sum_same : (n c : ℕ) (f g : ℕ → ℕ) → n ≤ c → ((k : ℕ) → (k ≡ c → ⊥) → g k ≡ f k) → sum_to n g ≡ sum_to n f
-    sum_same zero c f g h b = refl
-    sum_same (suc n) c f g h b = omega (arith, b n (λ e. omega arith), sum_same n c f g (omega arith) b)
-
-sum_le : (n : ℕ) (f g : ℕ → ℕ) → ((k : ℕ) → k < n → f k ≤ g k) → sum_to n f ≤ sum_to n g
-sum_le zero f g h = omega arith
-sum_le (suc n) f g h = omega (arith, h n (omega arith), sum_le n f g (λ k l. h k (omega arith)))
-
-tally : (rs : List Record) → Sound rs → length rs ≡ sum_to 16 (λ c. length (messages c rs))
-tally [] s = refl
-tally (r ∷ rs) s =
-    let g = s 0 (omega arith) in
-    let c = r.connection in
-    let t = tally rs (sound_tail r rs s) in
-    let b : sum_to 16 (λ d. length (messages d (r ∷ rs))) ≡ sum_to 16 (λ d. length (messages d rs)) + 1 =
-    sum_bump 16 c (λ d. length (messages d rs)) (λ d. length (messages d (r ∷ rs))) g.0
-    (ap length (cond-true (eqb c c) (r.message ∷ messages c rs) (messages c rs) (eq-eqb c c refl)) ∙ omega arith)
-    (λ k ne. ap length (cond-false (eqb c k) (r.message ∷ messages k rs) (messages k rs) (ne_eqb c k (λ e. ne (sym e))))) in
-    omega arith
+encode_size (r ∷ rs) s =
+    let g = All-head Good r rs s in
+    omega (arith, length-append r.message (encode rs), encode_size rs (All-tail Good r rs s))
 
 -- no count is above the limit, behind the last one neither
 pub fills_at : (counts : List ℕ) (lim : ℕ) → All (λ n. n ≤ lim) counts → (d : ℕ) → get_or counts d 0 ≤ lim
@@ -200,39 +156,39 @@ fills_at counts lim all d = ⊎_elim
     (λ h. omega (arith, get_or_past counts d 0 h))
     (cases_lt d (length counts))
 
+-- a count less one, where a record of c is gone
+tallied_less : (counts : List ℕ) (rs ss : List Record) (c : ℕ) (m : List ℕ) → c < length counts → Tallied counts rs → messages c rs ≡ m ∷ messages c ss → ((d : ℕ) → (d ≡ c → ⊥) → messages d ss ≡ messages d rs) → Tallied (set counts c (get_or counts c 0 - 1)) ss
+tallied_less counts rs ss c m h t here other d =
+    let less = get_or counts c 0 - 1 in
+    ⊎_elim
+    (λ (e : d ≡ c). rw e (omega (arith, get_or-set_same counts c less 0 h, t c, ap length here)))
+    (λ ne. omega (arith, get_or-set_other counts c d less 0 ne, t d, ap length (other d ne)))
+    (cases_eq d c)
+
+-- the counts say how many records there are, in all
+tally : (rs : List Record) (counts : List ℕ) → length counts ≡ 16 → Sound rs → Tallied counts rs → length rs ≡ sum_by (λ n. n) counts
+tally [] counts l s t = omega (arith, sum_by-le (λ n. n) 0 counts (All-from_get_or (λ n. n ≤ 0) counts 0 (λ k h. omega (arith, t k))))
+tally (r ∷ rs) counts l s t =
+    let c = r.connection in
+    let less = get_or counts c 0 - 1 in
+    let h : c < length counts = omega (arith, (All-head Good r rs s).0) in
+    let here : messages c (r ∷ rs) ≡ r.message ∷ messages c rs = cond-true (eqb c c) _ _ (eq-eqb c c refl) in
+    let t' = tallied_less counts (r ∷ rs) rs c r.message h t here (λ d ne. sym (cond-false (eqb c d) _ _ (ne_eqb c d (λ e. ne (sym e))))) in
+    omega (arith, t c, ap length here, sum_by-set (λ n. n) counts c less 0 h, tally rs (set counts c less) (length-set counts c less ∙ l) (All-tail Good r rs s) t')
+
 -- there is room for one more record where a connection may have one more
-pub room_for : (rs : List Record) (counts : List ℕ) (lim c : ℕ) → Sound rs → Tallied counts rs → All (λ n. n ≤ lim) counts → c < 16 → get_or counts c 0 < lim → length (encode rs) + 1027 ≤ lim * 16432
-room_for rs counts lim c s t all hc free =
-    let one_more : ℕ → ℕ = λ d. length (messages d rs) + cond (eqb d c) 1 0 in
-    let b = sum_bump 16 c (λ d. length (messages d rs)) one_more hc (ap (λ (n : ℕ). length (messages c rs) + n) (cond-true (eqb c c) 1 0 (eq-eqb c c refl))) (λ k ne. ap (λ (n : ℕ). length (messages k rs) + n) (cond-false (eqb k c) 1 0 (ne_eqb k c ne)) ∙ omega arith) in
-    let l = sum_le 16 one_more (λ _. lim) (λ k h. ⊎_elim
-    (λ (e : k ≡ c). omega (arith, t c, ap (λ (j : ℕ). length (messages j rs)) e, cond-true {A = ℕ} (eqb k c) 1 0 (eq-eqb k c e)))
-    (λ ne. omega (arith, t k, fills_at counts lim all k, cond-false {A = ℕ} (eqb k c) 1 0 (ne_eqb k c ne)))
-    (cases_eq k c)) in
-    omega (arith, tally rs s, encode_size rs s)
+pub room_for : (rs : List Record) (counts : List ℕ) (lim c : ℕ) → length counts ≡ 16 → Sound rs → Tallied counts rs → All (λ n. n ≤ lim) counts → c < 16 → get_or counts c 0 < lim → length (encode rs) + 1027 ≤ lim * 16432
+room_for rs counts lim c l s t all hc free =
+    let more = get_or counts c 0 + 1 in
+    let h : c < length counts = omega arith in
+    let whole = sum_by-le (λ n. n) lim (set counts c more) (All-set (λ n. n ≤ lim) counts c more (omega arith) all) in
+    let long : length (set counts c more) ≡ 16 = length-set counts c more ∙ l in
+    let bound : sum_by (λ n. n) (set counts c more) ≤ 16 * lim = rw (← long) whole in
+    omega (arith, sum_by-set (λ n. n) counts c more 0 h, tally rs counts l s t, encode_size rs s)
 
 -- and few records, in all
-pub few : (rs : List Record) (counts : List ℕ) (lim : ℕ) → Sound rs → Tallied counts rs → All (λ n. n ≤ lim) counts → length rs ≤ lim * 16
-few rs counts lim s t all = omega (arith, tally rs s, sum_le 16 (λ d. length (messages d rs)) (λ _. lim) (λ k h. omega (arith, t k, fills_at counts lim all k)))
-
--- the laws, of anything that has such fields
-module _ {S : Type 0} (lim records : S → ℕ) (counts area : S → List ℕ) (sound : (s : S) → Sound (decode (records s) (area s))) (tallied : (s : S) → Tallied (counts s) (decode (records s) (area s))) (fills : (s : S) → All (λ n. n ≤ lim s) (counts s)) where
-  pub roll_laws : Laws (λ s. tabled (λ c. messages c (decode (records s) (area s)))) lim
-  roll_laws = record {
-    sixteen = λ s. tabled_length (λ c. messages c (decode (records s) (area s)));
-    within = λ s c.
-        let f : ℕ → List (List ℕ) = λ k. messages k (decode (records s) (area s)) in
-        ⊎_elim
-        (λ (h : c < 16). omega (arith, ap length (tabled_at f c h), tallied s c, fills_at (counts s) (lim s) (fills s) c))
-        (λ h. omega (arith, ap length (tabled_past f c h)))
-        (cases_lt c 16);
-    sized = λ s c p hp.
-        let f : ℕ → List (List ℕ) = λ k. messages k (decode (records s) (area s)) in
-        ⊎_elim
-        (λ (h : c < 16). let e = tabled_at f c h in rw e (sized_messages c (decode (records s) (area s)) (sound s) p (rw e at hp)))
-        (λ h. absurd (omega (arith, ap length (tabled_past f c h))))
-        (cases_lt c 16);
-  }
+pub few : (rs : List Record) (counts : List ℕ) (lim : ℕ) → length counts ≡ 16 → Sound rs → Tallied counts rs → All (λ n. n ≤ lim) counts → length rs ≤ 16 * lim
+few rs counts lim l s t all = rw (← l) (rw (← tally rs counts l s t) at (sum_by-le (λ n. n) lim counts all))
 
 -- one record more
 pub record Put (area area' : List ℕ) (n used c : ℕ) (m : List ℕ) : Type 0 where
@@ -265,7 +221,7 @@ tallied_put counts rs c m h t d =
 
 module _ (area area' : List ℕ) (n used c : ℕ) (m : List ℕ) (p : Put area area' n used c m) where
   pub put_sound : Sound (decode n area) → Good (record_of c m) → Sound (decode (n + 1) area')
-  put_sound s g = subst Sound (sym p.rows) (sound_push (decode n area) (record_of c m) s g)
+  put_sound s g = subst Sound (sym p.rows) (All-push Good (decode n area) (record_of c m) s g)
 
   pub put_tallied : (counts : List ℕ) (i : ℕ) → i ≡ c → c < length counts → Tallied counts (decode n area) → Tallied (set counts i (get_or counts i 0 + 1)) (decode (n + 1) area')
   put_tallied counts i e h t =
@@ -379,13 +335,6 @@ take_row area area' n used c at len f w =
       ends = ap (λ (x : List Record). length (encode x)) t.0 ∙ ap length enc ∙ omega arith;
     }
 
-tallied_take : (counts : List ℕ) (rs : List Record) (c : ℕ) (m : List ℕ) → c < length counts → Tallied counts rs → messages c rs ≡ m ∷ messages c (without c rs) → Tallied (set counts c (get_or counts c 0 - 1)) (without c rs)
-tallied_take counts rs c m h t o d =
-    ⊎_elim
-    (λ (e : d ≡ c). omega (arith, ap (λ (j : ℕ). get_or (set counts c (get_or counts c 0 - 1)) j 0) e, ap (λ (j : ℕ). length (messages j (without c rs))) e, get_or-set_same counts c (get_or counts c 0 - 1) 0 h, t c, ap length o))
-    (λ ne. omega (arith, get_or-set_other counts c d (get_or counts c 0 - 1) 0 ne, t d, ap length (messages_without c d rs ne)))
-    (cases_eq d c)
-
 module _ (area area' : List ℕ) (n used c at len : ℕ) (p : Taken area area' n used c len) where
   pub take_sound : Sound (decode n area) → Sound (decode (n - 1) area')
   take_sound s = subst Sound (sym p.rows) (sound_without c (decode n area) s)
@@ -393,7 +342,7 @@ module _ (area area' : List ℕ) (n used c at len : ℕ) (p : Taken area area' n
   pub take_tallied : (counts : List ℕ) (i : ℕ) → i ≡ c → c < length counts → Tallied counts (decode n area) → First area n used c at len → Tallied (set counts i (get_or counts i 0 - 1)) (decode (n - 1) area')
   take_tallied counts i e h t f =
       subst (λ (j : ℕ). Tallied (set counts j (get_or counts j 0 - 1)) (decode (n - 1) area')) (sym e)
-      (subst (Tallied (set counts c (get_or counts c 0 - 1))) (sym p.rows) (tallied_take counts (decode n area) c _ h t f.oldest))
+      (subst (Tallied (set counts c (get_or counts c 0 - 1))) (sym p.rows) (tallied_less counts (decode n area) (without c (decode n area)) c _ h t f.oldest (λ d ne. messages_without c d (decode n area) ne)))
 
 -- `hi` and `ok` for 3 and `!` for 0 between them, as they lie, and after 3 took its first
 three : List Record

@@ -1,5 +1,6 @@
 -- Records closed up in one row, how they lie in bytes, and the messages that they hold.
-use Rattle.std.specs.Prelude.{◌≡◌, ℕ, zero, suc, ◌+◌, ◌*◌, ◌/◌, ◌%◌, ◌<◌, ◌≤◌, cond, List, [], ◌∷◌, ◌++◌, length, take, drop, ◌==◌, slice_index, slice_index_or}
+use Rattle.std.specs.Prelude.{◌≡◌, ℕ, zero, suc, ◌+◌, ◌*◌, ◌/◌, ◌%◌, ◌<◌, ◌≤◌, cond, List, [], ◌∷◌, ◌++◌, length, take, drop, ◌==◌, slice_index}
+use Rattle.std.specs.List.{All}
 
 -- a message that waits for a connection
 pub record Record : Type 0 where
@@ -55,7 +56,7 @@ abbrev pub Good : Record → Type 0
 Good r = (r.connection < 16) × (0 < length r.message) × (length r.message ≤ 1024)
 
 abbrev pub Sound : List Record → Type 0
-Sound rs = (k : ℕ) → k < length rs → Good (slice_index_or rs k (record_of 0 []))
+Sound rs = All Good rs
 
 -- how many records each connection has
 abbrev pub Tallied : List ℕ → List Record → Type 0

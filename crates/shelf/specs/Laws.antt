@@ -1,12 +1,13 @@
 -- What holds of the lists of every shelf.
+use Rattle.std.specs.List.{All}
 use Rattle.std.specs.Prelude.{◌≡◌, ℕ, ◌+◌, ◌-◌, ◌*◌, ◌<◌, List, [], length, drop, vec_items, nat_lt, slice_index, slice_index_or}
-use Rattle.std.proofs.Common.{ap, ◌∙◌, ⊎_elim, arith}
+use Rattle.std.proofs.Common.{arith}
 use Rattle.std.proofs.lemmas.List.FromFn.{length-map-range_with_len, get_or-map-range_with_len, fill_by_all}
 use Rattle.std.proofs.lemmas.List.{length-take-le, length-drop}
-use Rattle.std.proofs.lemmas.List.Elements.{All-get_or}
-use Rattle.std.proofs.lemmas.Bool.{cases_lt, cond_both, ltb-true}
+use Rattle.std.proofs.lemmas.List.Elements.{All-get_or, All-from_get_or}
+use Rattle.std.proofs.lemmas.Bool.{cond_both, ltb-true}
 use Rattle.mailbox.specs.Lists.{Laws, IsSize}
-use Rattle.mailbox.proofs.Tables.{tabled_length, tabled_at, tabled_past}
+use Rattle.mailbox.proofs.Tables.{laws_of}
 use Rattle.shelf.specs.declared.places.Shelf.{Shelf}
 use Rattle.shelf.specs.Rows.{IsRingOf, place, row}
 use Rattle.shelf.specs.Meaning.{ring_in, row_of, lists_of, limit_of, kept_in, slot_in, count_in}
@@ -51,25 +52,13 @@ module _ (s : Shelf) where
       length-take-le (slice_index s.lengths at) (drop (1024 * at) (vec_items s.area))
       (omega (arith, (size_holds at h).1, s.room, s.area.ok.0, length-drop (1024 * at) (vec_items s.area)))
 
-  sized : (c p : ℕ) → c < 16 → p < length (row_of s c) → IsSize (length (slice_index_or (row_of s c) p []))
-  sized c p hc hp =
+  sizes : (c : ℕ) → c < 16 → All (λ m. IsSize (length m)) (row_of s c)
+  sizes c hc = All-from_get_or (λ m. IsSize (length m)) (row_of s c) []
+      (λ p hp.
       let n = row_length s c in
       let f = (ring_holds c hc).fills in
-      let at = slot_in s c p in
       let l = slot_lt c p hc (omega arith) in
-      let e = ap length (row_at s c p (omega arith)) ∙ kept_length at l in
-      let z = size_holds at l in
-      (omega arith, omega arith)
+      rw (row_at s c p (omega arith), kept_length (slot_in s c p) l) (size_holds (slot_in s c p) l))
 
 pub laws : Laws lists_of limit_of
-laws = record {
-  sixteen = λ s. tabled_length (row_of s);
-  within = λ s c. ⊎_elim
-      (λ (h : c < 16). omega (arith, ap length (tabled_at (row_of s) c h), row_length s c, (ring_holds s c h).fills))
-      (λ h. omega (arith, ap length (tabled_past (row_of s) c h)))
-      (cases_lt c 16);
-  sized = λ s c p hp. ⊎_elim
-      (λ (h : c < 16). let e = tabled_at (row_of s) c h in rw e (sized s c p h (rw e at hp)))
-      (λ h. absurd (omega (arith, ap length (tabled_past (row_of s) c h))))
-      (cases_lt c 16);
-}
+laws = laws_of row_of limit_of (λ s c h. omega (arith, row_length s c, (ring_holds s c h).fills)) (λ s c h. sizes s c h)

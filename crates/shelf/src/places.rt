@@ -10,7 +10,7 @@ use mailbox::{LONGEST, PLACES};
 // The bytes of a slot: the longest message fits.
 pub const SLOT: usize = LONGEST;
 
-// A place is a slot for one waiting message of each connection.
+// The bytes of one place, a slot, of each connection.
 pub const PLACE: usize = CONNECTIONS * SLOT;
 
 pub const SLOTS: usize = CONNECTIONS * PLACES;
@@ -33,7 +33,7 @@ pub struct Shelf {
     pub(crate) limit: usize,
     // by connection
     pub(crate) rings: [Ring; CONNECTIONS],
-    // by slot, the length of its message, which has no room in a full slot; 1 before the first
+    // by slot, the length of its message, 1 before the first; beside the area, since a full slot has no room for it
     pub(crate) lengths: [u16; SLOTS],
     // every place lies in the area
     ghost most: { limit ≤ 16 },

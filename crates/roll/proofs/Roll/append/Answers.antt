@@ -12,13 +12,13 @@ use Rattle.roll.proofs.Roll.append.Goals as goal
 pub write_record-self-requires : goal.write_record-self-requires
 write_record-self-requires c =
     let s = c.args.self.now in
-    let r = room_for (row s) s.counts s.limit c.args.c.number s.sound s.tallied s.fills c.args.c.within c.requires in
+    let r = room_for (row s) s.counts s.limit c.args.c.number s.sixteen s.sound s.tallied s.fills c.args.c.within c.requires in
     omega (arith, s.ends, s.room, c.args.message.short, ap length c.deref_mut.ensures.value)
 
 pub overflow_add-self : goal.overflow_add-self
 overflow_add-self c =
     let s = c.args.self.now in
-    omega (arith, few (row s) s.counts s.limit s.sound s.tallied s.fills, s.most, decode_length s.records (vec_items s.area))
+    omega (arith, few (row s) s.counts s.limit s.sixteen s.sound s.tallied s.fills, s.most, decode_length s.records (vec_items s.area))
 
 -- the area with a record behind the last
 longer : (s : Roll) (c : ℕ) (m lent ws : List ℕ) → lent ≡ vec_items s.area → length ws ≡ length lent → ws ≡ written lent s.used (head c m ++ m) → Put (vec_items s.area) (vec_items (with_items s.area ws)) s.records s.used c m

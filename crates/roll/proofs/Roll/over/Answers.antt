@@ -1,10 +1,7 @@
-use Rattle.std.proofs.Common.{ℕ, ◌/◌, min, refl, ap, ◌∙◌}
+use Rattle.std.proofs.Common.{refl}
 use Rattle.mailbox.specs.Lists.{tabled}
 use Rattle.roll.proofs.Roll.over.Goals as goal
 
-pub returns : goal.returns
+pub returns-clause-empty : goal.returns-clause-empty
 unfolding tabled
-returns c = record {
-  limit = c.limit_for-limit.ensures ∙ ap (λ (n : ℕ). min 16 (n / 16432)) c.len.ensures;
-  empty = refl;
-}
+returns-clause-empty c = refl

@@ -12,11 +12,6 @@ bounds-area-at c =
     let h = walk_here _ _ _ _ _ c.loop-k.invariant (omega arith) in
     omega arith
 
-pub overflow_add-at : goal.overflow_add-at
-overflow_add-at c =
-    let h = walk_here _ _ _ _ _ c.loop-k.invariant (omega arith) in
-    omega arith
-
 pub overflow_add-at-in-loop-k : goal.overflow_add-at-in-loop-k
 overflow_add-at-in-loop-k c =
     let h = walk_here _ _ _ _ _ c.loop-k.invariant (omega arith) in
