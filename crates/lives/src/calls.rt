@@ -25,7 +25,7 @@ impl Refusal {
         match self {
             Refusal::NoLife => 1,
             Refusal::Taken => 2,
-            Refusal::Line(refusal) => refusal.number(),
+            Refusal::Line(refusal) => u8::from(refusal),
         }
     }
 }
