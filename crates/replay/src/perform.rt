@@ -33,7 +33,7 @@ fn settled(res: Result<(), Refusal>) -> Answer
 {
     match res {
         Ok(()) => Answer::Done,
-        Err(refusal) => Answer::Refused(refusal.number()),
+        Err(refusal) => Answer::Refused(u8::from(refusal)),
     }
 }
 
@@ -55,7 +55,7 @@ fn give_line(
             buffer.truncate(count);
             Ok(Answer::Wrote(buffer))
         }
-        Err(refusal) => Ok(Answer::Refused(refusal.number())),
+        Err(refusal) => Ok(Answer::Refused(u8::from(refusal))),
     }
 }
 
