@@ -1,33 +1,22 @@
 -- A program has begun exactly if it has shown who it is.
-use Rattle.std.proofs.Common.{◌≡◌, ℕ, ◌≤◌, Bool, true, false, cond, ltb, ◌⊎◌, List, [], ◌∷◌, ◌++◌, length, get_or, Ok, Err, codes, Decides, Result, sym, refl, ap, ◌∙◌, subst, inl, inr, arith}
+use Rattle.std.proofs.Common.{◌≡◌, ℕ, ◌≤◌, ltb, ◌⊎◌, List, [], ◌∷◌, ◌++◌, length, get_or, Ok, Err, codes, Result, sym, refl, ap, ◌∙◌, subst, inl, inr, arith}
 use Rattle.std.specs.List.{AllByRecursion}
 use Rattle.std.specs.Str.{bytes_eq}
 use Rattle.std.proofs.lemmas.Slice.Eq.{bytes_eq-Decides}
 use Rattle.std.proofs.lemmas.List.{take_at}
-use Rattle.std.proofs.lemmas.Bool.{ltb-false, false≢true}
+use Rattle.std.proofs.lemmas.Bool.{cond-false, ltb-false, le-ltb}
 use Rattle.handshake.specs.declared.machine.Handshake.{Handshake}
 use Rattle.handshake.specs.declared.machine.State.{State}
 use Rattle.handshake.specs.declared.machine.State.TheVariants.{WaitingForAuth, WaitingForBegin, Begun}
 use Rattle.handshake.specs.declared.machine.Refusal.{Refusal}
 use Rattle.handshake.specs.declared.machine.Refusal.TheVariants.{ShortBuffer}
+use Rattle.handshake.specs.declared.reply.Reply.{Reply}
 use Rattle.handshake.specs.declared.reply.Reply.TheVariants as reply
 use Rattle.handshake.specs.Lines.{Command, external, other_auth, error, begin, cancel, unknown, read}
 use Rattle.handshake.specs.Texts.{credential, wording}
-use Rattle.handshake.specs.Machine.{says, refuses, turn, worded, machine, begun, heard, counted, filled, moved}
+use Rattle.handshake.specs.Machine.{Turn, refuses, turn, worded, machine, heard, counted, filled, moved}
 use Rattle.handshake.specs.Law.{Exchange, said, exchanged, Leads, Conversation, Rejected, Authenticated, Law}
-use Rattle.handshake.proofs.Hearing.{heard_next}
-use Rattle.handshake.proofs.Reading.{read_external, read_begin}
-
--- how the state is told by a number
-abbrev stage : State → ℕ
-stage WaitingForAuth = 0
-stage WaitingForBegin = 1
-stage Begun = 2
-
--- the first byte of an answer, 1 for none, 0 for a refusal
-abbrev mark : Result (List ℕ) Refusal → ℕ
-mark (Ok text) = get_or text 0 1
-mark (Err e) = 0
+use Rattle.handshake.proofs.Reading.{either, read_external, read_begin}
 
 module _ (id : List ℕ) (uid : ℕ) where
   -- A begin that no rejection comes before.
@@ -94,44 +83,45 @@ module _ (id : List ℕ) (uid : ℕ) where
     first : x.line ≡ codes "BEGIN" → 37 ≤ x.room → Begins (x ∷ xs)
     first l r = record { between = []; begin = x; after = xs; order = refl; begins = l; roomy = r; kept = tt }
 
-    judged : (text : List ℕ) (b : Bool) → bytes_eq text (credential uid) ≡ b → x.line ≡ codes "AUTH EXTERNAL " ++ text → x.answer ≡ worded id (cond b (says reply.Okay WaitingForBegin) (says reply.Rejected WaitingForAuth)).answer → Shown (cond b (says reply.Okay WaitingForBegin) (says reply.Rejected WaitingForAuth)).next xs → Authenticated id uid (x ∷ xs)
-    judged text true e l a s = pass text l ((bytes_eq-Decides text (credential uid)).0 e) a s
-    judged text false e l a s = later x xs s
+    -- what the rest shows in the state that an exchange leads to, it shows with the exchange
+    abbrev Carries : State → Turn (List ℕ) → Type 0
+    Carries s t = x.answer ≡ t.answer → Shown t.next xs → Shown s (x ∷ xs)
 
-    -- an answer that is not REJECTED EXTERNAL
-    other : (a : Result (List ℕ) Refusal) → x.answer ≡ a → (mark a ≡ 82 → ⊥) → Rejected id x → ⊥
-    other a e n r = n (ap mark (sym e ∙ r))
+    abbrev Carries_reply : State → Turn Reply → Type 0
+    Carries_reply s t = x.answer ≡ worded id t.answer → Shown t.next xs → Shown s (x ∷ xs)
 
     one : (s : State) (c : Command) → read x.line ≡ c → 37 ≤ x.room → x.answer ≡ worded id (turn s uid c).answer → Shown (turn s uid c).next xs → Shown s (x ∷ xs)
-    one WaitingForAuth (external text) r m a s = judged text (bytes_eq text (credential uid)) refl (read_external x.line text r) a s
+    one WaitingForAuth (external text) r m a s =
+        either (Carries_reply WaitingForAuth) (bytes_eq text (credential uid)) _ _
+        (λ e. pass text (read_external x.line text r) ((bytes_eq-Decides text (credential uid)).0 e))
+        (λ _ _. later x xs) a s
     one WaitingForAuth other_auth r m a s = later x xs s
     one WaitingForAuth error r m a s = later x xs s
     one WaitingForAuth begin r m a s = later x xs s
     one WaitingForAuth cancel r m a s = later x xs s
     one WaitingForAuth unknown r m a s = later x xs s
-    one WaitingForBegin (external text) r m a s = keep (other _ a (λ e. omega arith)) s
-    one WaitingForBegin other_auth r m a s = keep (other _ a (λ e. omega arith)) s
+    one WaitingForBegin (external text) r m a s = keep (λ r. cc) s
+    one WaitingForBegin other_auth r m a s = keep (λ r. cc) s
     one WaitingForBegin error r m a s = inr (later x xs s)
     one WaitingForBegin begin r m a s = inl (first (read_begin x.line r) m)
     one WaitingForBegin cancel r m a s = inr (later x xs s)
-    one WaitingForBegin unknown r m a s = keep (other _ a (λ e. omega arith)) s
+    one WaitingForBegin unknown r m a s = keep (λ r. cc) s
     one Begun c r m a s = tt
 
     -- a line that is refused for want of room changes nothing
     short : (s : State) → x.answer ≡ Err ShortBuffer → Shown s xs → Shown s (x ∷ xs)
     short WaitingForAuth a s = later x xs s
-    short WaitingForBegin a s = keep (other _ a (λ e. omega arith)) s
+    short WaitingForBegin a s = keep (λ r. cc) s
     short Begun a s = tt
 
-    by_room : (s : State) (b : Bool) → ltb x.room 37 ≡ b → x.answer ≡ (cond b (refuses ShortBuffer s) (machine s uid id x.line)).answer → Shown (cond b (refuses ShortBuffer s) (machine s uid id x.line)).next xs → Shown s (x ∷ xs)
-    by_room s true e a h = short s a h
-    by_room s false e a h = one s (read x.line) refl (ltb-false x.room 37 e) a h
+    by_room : (s : State) → Carries s (heard s uid id x.line x.room)
+    by_room s = either (Carries s) (ltb x.room 37) _ _ (λ _. short s) (λ e. one s (read x.line) refl (ltb-false x.room 37 e))
 
   forward : (xs : List Exchange) (s : State) → Leads id uid s xs Begun → Shown s xs
-  forward [] WaitingForAuth e = absurd (omega (arith, ap stage e))
-  forward [] WaitingForBegin e = absurd (omega (arith, ap stage e))
+  forward [] WaitingForAuth e = cc
+  forward [] WaitingForBegin e = cc
   forward [] Begun e = tt
-  forward (x ∷ xs) s (a, l) = by_room x xs s (ltb x.room 37) refl a (forward xs (heard s uid id x.line x.room).next l)
+  forward (x ∷ xs) s (a, l) = by_room x xs s a (forward xs (heard s uid id x.line x.room).next l)
 
   cut : (xs ys : List Exchange) (s t : State) → Leads id uid s (xs ++ ys) t → (m : State) × Leads id uid s xs m × Leads id uid m ys t
   cut [] ys s t l = (s, refl, l)
@@ -143,23 +133,27 @@ module _ (id : List ℕ) (uid : ℕ) where
   Past WaitingForBegin = Unit {0}
   Past Begun = Unit {0}
 
-  by_judgement : (b : Bool) → mark (worded id (cond b (says reply.Okay WaitingForBegin) (says reply.Rejected WaitingForAuth)).answer) ≡ 79 → Past (cond b (says reply.Okay WaitingForBegin) (says reply.Rejected WaitingForAuth)).next
-  by_judgement true e = tt
-  by_judgement false e = absurd (omega arith)
+  -- the first byte of an answer; 0 for none and for a refusal
+  abbrev mark : Result (List ℕ) Refusal → ℕ
+  mark (Ok text) = get_or text 0 0
+  mark (Err e) = 0
+
+  abbrev Okayed : Result (List ℕ) Refusal → Type 0
+  Okayed a = a ≡ Ok (wording id reply.Okay)
 
   -- only OK says OK
-  passing : (s : State) (c : Command) → mark (worded id (turn s uid c).answer) ≡ 79 → Past (turn s uid c).next
-  passing WaitingForAuth (external text) e = by_judgement (bytes_eq text (credential uid)) e
-  passing WaitingForAuth other_auth e = absurd (omega arith)
-  passing WaitingForAuth error e = absurd (omega arith)
-  passing WaitingForAuth begin e = absurd (omega arith)
-  passing WaitingForAuth cancel e = absurd (omega arith)
-  passing WaitingForAuth unknown e = absurd (omega arith)
+  passing : (s : State) (c : Command) → Okayed (worded id (turn s uid c).answer) → Past (turn s uid c).next
+  passing WaitingForAuth (external text) e = either (λ (t : Turn Reply). Okayed (worded id t.answer) → Past t.next) (bytes_eq text (credential uid)) _ _ (λ _ _. tt) (λ _ e. absurd (omega (arith, ap mark e))) e
+  passing WaitingForAuth other_auth e = absurd (omega (arith, ap mark e))
+  passing WaitingForAuth error e = absurd (omega (arith, ap mark e))
+  passing WaitingForAuth begin e = absurd (omega (arith, ap mark e))
+  passing WaitingForAuth cancel e = absurd (omega (arith, ap mark e))
+  passing WaitingForAuth unknown e = absurd (omega (arith, ap mark e))
   passing WaitingForBegin (external text) e = tt
   passing WaitingForBegin other_auth e = tt
-  passing WaitingForBegin error e = absurd (omega arith)
+  passing WaitingForBegin error e = absurd (omega (arith, ap mark e))
   passing WaitingForBegin begin e = tt
-  passing WaitingForBegin cancel e = absurd (omega arith)
+  passing WaitingForBegin cancel e = absurd (omega (arith, ap mark e))
   passing WaitingForBegin unknown e = tt
   passing Begun c e = tt
 
@@ -174,18 +168,12 @@ module _ (id : List ℕ) (uid : ℕ) where
   staying Begun c n p = tt
 
   passed : (x : Exchange) (s : State) → x.answer ≡ (heard s uid id x.line x.room).answer → x.answer ≡ Ok (wording id reply.Okay) → Past (heard s uid id x.line x.room).next
-  passed x s a o = by_room_passed (ltb x.room 37) (ap mark (sym a ∙ o))
-    where
-      by_room_passed : (b : Bool) → mark (cond b (refuses ShortBuffer s) (machine s uid id x.line)).answer ≡ 79 → Past (cond b (refuses ShortBuffer s) (machine s uid id x.line)).next
-      by_room_passed true e = absurd (omega arith)
-      by_room_passed false e = passing s (read x.line) e
+  passed x s a o =
+      either (λ (t : Turn (List ℕ)). Okayed t.answer → Past t.next) (ltb x.room 37) _ _ (λ _ e. cc) (λ _ e. passing s (read x.line) e) (sym a ∙ o)
 
   stayed : (x : Exchange) (s : State) → x.answer ≡ (heard s uid id x.line x.room).answer → (Rejected id x → ⊥) → Past s → Past (heard s uid id x.line x.room).next
-  stayed x s a n p = by_room_stayed (ltb x.room 37) (λ e. n (a ∙ e))
-    where
-      by_room_stayed : (b : Bool) → ((cond b (refuses ShortBuffer s) (machine s uid id x.line)).answer ≡ Ok (wording id reply.Rejected) → ⊥) → Past (cond b (refuses ShortBuffer s) (machine s uid id x.line)).next
-      by_room_stayed true m = p
-      by_room_stayed false m = staying s (read x.line) m p
+  stayed x s a n p =
+      either (λ (t : Turn (List ℕ)). (t.answer ≡ Ok (wording id reply.Rejected) → ⊥) → Past t.next) (ltb x.room 37) _ _ (λ _ _. p) (λ _ m. staying s (read x.line) m p) (λ e. n (a ∙ e))
 
   through : (xs : List Exchange) (s t : State) → Leads id uid s xs t → AllByRecursion (λ x. Rejected id x → ⊥) xs → Past s → Past t
   through [] s t l n p = subst Past l p
@@ -197,15 +185,16 @@ module _ (id : List ℕ) (uid : ℕ) where
   begun_at Begun p = refl
 
   begun_by : (x : Exchange) (s : State) → x.line ≡ codes "BEGIN" → 37 ≤ x.room → Past s → (heard s uid id x.line x.room).next ≡ Begun
-  begun_by x s l r p = sym (heard_next s uid id x.line x.room r begin (sym (ap read l))) ∙ begun_at s p
+  begun_by x s l r p =
+      ap (λ (t : Turn (List ℕ)). t.next) (cond-false _ (refuses ShortBuffer s) (machine s uid id x.line) (le-ltb x.room 37 r))
+      ∙ ap (λ (line : List ℕ). (turn s uid (read line)).next) l
+      ∙ begun_at s p
 
   begun_stays : (xs : List Exchange) (t : State) → Leads id uid Begun xs t → t ≡ Begun
   begun_stays [] t l = sym l
-  begun_stays (x ∷ xs) t (a, l) = begun_stays xs t (subst (λ (s : State). Leads id uid s xs t) (still (ltb x.room 37)) l)
-    where
-      still : (b : Bool) → (cond b (refuses ShortBuffer Begun) (machine Begun uid id x.line)).next ≡ Begun
-      still true = refl
-      still false = refl
+  begun_stays (x ∷ xs) t (a, l) =
+      let still : (heard Begun uid id x.line x.room).next ≡ Begun = either (λ (t : Turn (List ℕ)). t.next ≡ Begun) (ltb x.room 37) _ _ (λ _. refl) (λ _. refl) in
+      begun_stays xs t (subst (λ (s : State). Leads id uid s xs t) still l)
 
   backward : (xs : List Exchange) (t : State) → Conversation id uid xs t → Authenticated id uid xs → t ≡ Begun
   backward xs t l a =
@@ -238,12 +227,3 @@ pub line_grows : (h k : Handshake) (id line out after : List ℕ) (r : Result �
 line_grows h k id line out after r e m f xs l =
     subst (Conversation id h.uid (xs ++ (exchanged line out r after ∷ []))) (sym (ap (λ (j : Handshake). j.state) m))
     (grown id h.uid xs WaitingForAuth h.state (exchanged line out r after) l (cc (said_back (heard h.state h.uid id line (length out)).answer out)))
-
--- the test of the state decides what the law says of it
-pub begun_decides : {P : Type 0} (r : Bool) (t : State) → r ≡ begun t → (t ≡ Begun → P) × (P → t ≡ Begun) → Decides r P
-begun_decides r t e h = ((λ p. h.0 (is_begun t (sym e ∙ p))), (λ p. e ∙ ap begun (h.1 p)))
-  where
-    is_begun : (t : State) → begun t ≡ true → t ≡ Begun
-    is_begun WaitingForAuth e = absurd (false≢true e)
-    is_begun WaitingForBegin e = absurd (false≢true e)
-    is_begun Begun e = refl

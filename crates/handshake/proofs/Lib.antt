@@ -1,5 +1,4 @@
 mod Covering
-mod Credentials
-mod Hearing
+pub mod Credentials
 mod Laws
 mod Reading

@@ -1,8 +1,13 @@
--- What a line is that is read as AUTH EXTERNAL or as BEGIN.
-use Rattle.std.proofs.Common.{◌≡◌, ℕ, Bool, true, false, cond, ◌&&◌, eqb, leb, ◌⊎◌, List, [], ◌∷◌, ◌++◌, length, Some, None, codes, Option, sym, refl, ap, ◌∙◌, inl, inr, ⊎_elim, arith}
+-- What a line is that is read as AUTH EXTERNAL or as BEGIN, and which line is unknown.
+use Rattle.std.proofs.Common.{◌≡◌, ℕ, ◌+◌, Bool, true, false, cond, ◌&&◌, ltb, leb, eqb, List, ◌∷◌, ◌++◌, length, take, drop, Some, None, codes, Option, sym, refl, ap, ◌∙◌, subst}
 use Rattle.std.specs.Str.{bytes_eq}
+use Rattle.std.specs.List.{position_or_len}
+use Rattle.std.specs.Option.{option_map}
 use Rattle.std.proofs.lemmas.Slice.Eq.{bytes_eq-Decides}
-use Rattle.std.proofs.lemmas.Bool.{eqb-true}
+use Rattle.std.proofs.lemmas.Bool.{cond-false, eqb-true, ltb-true, ltb-false}
+use Rattle.std.proofs.lemmas.List.{take_all}
+use Rattle.std.proofs.lemmas.List.Sums.{split_at_first, passes_at_first}
+use Rattle.handshake.proofs.Credentials.{differs}
 use Rattle.handshake.specs.Lines.{Command, external, other_auth, error, begin, cancel, unknown, printable, word, text, mechanism, authority, alone, command, read}
 
 -- a line is its word, or its word, a space and its text
@@ -10,102 +15,77 @@ abbrev parts : List ℕ → Option (List ℕ) → List ℕ
 parts w None = w
 parts w (Some t) = w ++ (32 ∷ t)
 
-parts_cons : (b : ℕ) (w : List ℕ) (t : Option (List ℕ)) → b ∷ parts w t ≡ parts (b ∷ w) t
-parts_cons b w None = refl
-parts_cons b w (Some t) = refl
-
 line_parts : (bs : List ℕ) → bs ≡ parts (word bs) (text bs)
-line_parts [] = refl
-line_parts (b ∷ bs) = by_space (eqb b 32) refl (line_parts bs)
+line_parts bs = by_space (ltb at (length bs)) refl
   where
-    by_space : (t : Bool) → eqb b 32 ≡ t → bs ≡ parts (word bs) (text bs) → b ∷ bs ≡ parts (cond t [] (b ∷ word bs)) (cond t (Some bs) (text bs))
-    by_space true e h = ap (λ (n : ℕ). n ∷ bs) (eqb-true b 32 e)
-    by_space false e h = ap (λ (r : List ℕ). b ∷ r) h ∙ parts_cons b (word bs) (text bs)
+    at : ℕ
+    at = position_or_len (λ b. eqb b 32) bs
+
+    by_space : (t : Bool) → ltb at (length bs) ≡ t → bs ≡ parts (take at bs) (option_map (λ i. drop (i + 1) bs) (cond t (Some at) None))
+    by_space true e =
+        let here = ltb-true _ _ e in
+        let space = eqb-true _ 32 (passes_at_first (λ b. eqb b 32) bs 0 here) in
+        split_at_first (λ b. eqb b 32) bs 0 here ∙ ap (λ (n : ℕ). take at bs ++ (n ∷ drop (at + 1) bs)) space
+    by_space false e = sym (take_all at bs (ltb-false _ _ e))
 
 same : (xs ys : List ℕ) → bytes_eq xs ys ≡ true → xs ≡ ys
 same xs ys e = (bytes_eq-Decides xs ys).0 e
 
-cond_cases : {X : Type 0} (b : Bool) (x y z : X) → cond b x y ≡ z → ((b ≡ true) × (x ≡ z)) ⊎ ((b ≡ false) × (y ≡ z))
-cond_cases true x y z e = inl (refl, e)
-cond_cases false x y z e = inr (refl, e)
+pub either : {X : Type 0} (P : X → Type 0) (b : Bool) (x y : X) → (b ≡ true → P x) → (b ≡ false → P y) → P (cond b x y)
+either P true x y h k = h refl
+either P false x y h k = k refl
 
--- commands of different rank are different
-abbrev rank : Command → ℕ
-rank (external t) = 0
-rank other_auth = 1
-rank error = 2
-rank begin = 3
-rank cancel = 4
-rank unknown = 5
+-- what a line is, by what it says; where that is open, nothing
+abbrev Says : List ℕ → Command → Type 0
+Says bs (external x) = bs ≡ codes "AUTH EXTERNAL " ++ x
+Says bs other_auth = Unit {0}
+Says bs error = Unit {0}
+Says bs begin = bs ≡ codes "BEGIN"
+Says bs cancel = Unit {0}
+Says bs unknown = Unit {0}
 
-apart : {X : Type 0} {c d : Command} → c ≡ d → (rank c ≡ rank d → ⊥) → X
-apart e h = absurd (h (ap rank e))
+module _ (bs : List ℕ) where
+  mechanism_says : (w : List ℕ) (t : Option (List ℕ)) → bs ≡ codes "AUTH " ++ parts w t → Says bs (mechanism w t)
+  mechanism_says w None whole = tt
+  mechanism_says w (Some x) whole = either (Says bs) (bytes_eq w (codes "EXTERNAL")) (external x) other_auth
+      (λ e. whole ∙ ap (λ (v : List ℕ). codes "AUTH " ++ (v ++ (32 ∷ x))) (same w _ e))
+      (λ _. tt)
 
--- a line is read by its parts, unless it is unknown
-by_parts : (bs : List ℕ) (c : Command) → (c ≡ unknown → ⊥) → read bs ≡ c → command (word bs) (text bs) ≡ c
-by_parts bs c known e =
-    ⊎_elim (λ p. p.1) (λ p. absurd (known (sym p.1))) (cond_cases (leb (length bs) 256 && printable bs) _ _ c e)
+  authority_says : (t : Option (List ℕ)) → bs ≡ parts (codes "AUTH") t → Says bs (authority t)
+  authority_says None whole = tt
+  authority_says (Some rest) whole = mechanism_says (word rest) (text rest) (whole ∙ ap (λ (r : List ℕ). codes "AUTH " ++ r) (line_parts rest))
 
-mechanism_external : (w : List ℕ) (t : Option (List ℕ)) (x : List ℕ) → mechanism w t ≡ external x → parts w t ≡ codes "EXTERNAL " ++ x
-mechanism_external w None x e = apart e (λ r. omega arith)
-mechanism_external w (Some t) x e = ⊎_elim
-    (λ p. let n = same w (codes "EXTERNAL") p.0 in let g : external t ≡ external x = p.1 in cc)
-    (λ p. apart p.1 (λ r. omega arith))
-    (cond_cases (bytes_eq w (codes "EXTERNAL")) (external t) other_auth (external x) e)
+  module _ (w : List ℕ) where
+    alone_says : (t : Option (List ℕ)) → bs ≡ parts w t → Says bs (alone w t)
+    alone_says None whole = either (Says bs) (bytes_eq w (codes "BEGIN")) begin _
+        (λ e. whole ∙ same w _ e)
+        (λ _. either (Says bs) (bytes_eq w (codes "CANCEL")) cancel unknown (λ _. tt) (λ _. tt))
+    alone_says (Some t) whole = tt
 
-authority_external : (t : Option (List ℕ)) (x : List ℕ) → authority t ≡ external x → t ≡ Some (codes "EXTERNAL " ++ x)
-authority_external None x e = apart e (λ r. omega arith)
-authority_external (Some rest) x e = ap Some (line_parts rest ∙ mechanism_external (word rest) (text rest) x e)
+    command_says : (t : Option (List ℕ)) → bs ≡ parts w t → Says bs (command w t)
+    command_says t whole = either (Says bs) (bytes_eq w (codes "AUTH")) (authority t) _
+        (λ e. authority_says t (whole ∙ ap (λ (v : List ℕ). parts v t) (same w _ e)))
+        (λ _. either (Says bs) (bytes_eq w (codes "ERROR")) error _ (λ _. tt) (λ _. alone_says t whole))
 
-alone_external : (w : List ℕ) (t : Option (List ℕ)) (x : List ℕ) → alone w t ≡ external x → ⊥
-alone_external w None x e = ⊎_elim
-    (λ p. apart p.1 (λ r. omega arith))
-    (λ p. ⊎_elim
-    (λ q. apart q.1 (λ r. omega arith))
-    (λ q. apart q.1 (λ r. omega arith))
-    (cond_cases (bytes_eq w (codes "CANCEL")) cancel unknown (external x) p.1))
-    (cond_cases (bytes_eq w (codes "BEGIN")) begin _ (external x) e)
-alone_external w (Some t) x e = apart e (λ r. omega arith)
+  read_says : Says bs (read bs)
+  read_says = either (Says bs) (leb (length bs) 256 && printable bs) _ unknown (λ _. command_says (word bs) (text bs) (line_parts bs)) (λ _. tt)
 
-pub read_external : (bs x : List ℕ) → read bs ≡ external x → bs ≡ codes "AUTH EXTERNAL " ++ x
-read_external bs x e = ⊎_elim
-    (λ p.
-    let w = same (word bs) (codes "AUTH") p.0 in
-    let t = authority_external (text bs) x p.1 in
-    line_parts bs ∙ ap (λ (v : List ℕ). parts v (text bs)) w ∙ ap (parts (codes "AUTH")) t)
-    (λ p. ⊎_elim
-    (λ q. apart q.1 (λ r. omega arith))
-    (λ q. absurd (alone_external (word bs) (text bs) x q.1))
-    (cond_cases (bytes_eq (word bs) (codes "ERROR")) error _ (external x) p.1))
-    (cond_cases (bytes_eq (word bs) (codes "AUTH")) (authority (text bs)) _ (external x)
-    (by_parts bs (external x) (λ h. apart h (λ r. omega arith)) e))
+  pub read_external : (x : List ℕ) → read bs ≡ external x → bs ≡ codes "AUTH EXTERNAL " ++ x
+  read_external x e = subst (Says bs) e read_says
 
-authority_begin : (t : Option (List ℕ)) → authority t ≡ begin → ⊥
-authority_begin None e = apart e (λ r. omega arith)
-authority_begin (Some rest) e = by_text (text rest) e
-  where
-    by_text : (t : Option (List ℕ)) → mechanism (word rest) t ≡ begin → ⊥
-    by_text None h = apart h (λ r. omega arith)
-    by_text (Some t) h = ⊎_elim
-        (λ p. apart p.1 (λ r. omega arith))
-        (λ p. apart p.1 (λ r. omega arith))
-        (cond_cases (bytes_eq (word rest) (codes "EXTERNAL")) (external t) other_auth begin h)
+  pub read_begin : read bs ≡ begin → bs ≡ codes "BEGIN"
+  read_begin e = subst (Says bs) e read_says
 
-alone_begin : (w : List ℕ) (t : Option (List ℕ)) → alone w t ≡ begin → parts w t ≡ codes "BEGIN"
-alone_begin w None e = ⊎_elim
-    (λ p. same w (codes "BEGIN") p.0)
-    (λ p. ⊎_elim
-    (λ q. apart q.1 (λ r. omega arith))
-    (λ q. apart q.1 (λ r. omega arith))
-    (cond_cases (bytes_eq w (codes "CANCEL")) cancel unknown begin p.1))
-    (cond_cases (bytes_eq w (codes "BEGIN")) begin _ begin e)
-alone_begin w (Some t) e = apart e (λ r. omega arith)
+alone_unknown : (w : List ℕ) (t : Option (List ℕ)) → (t ≡ None → w ≡ codes "BEGIN" → ⊥) → (t ≡ None → w ≡ codes "CANCEL" → ⊥) → unknown ≡ alone w t
+alone_unknown w None no_begin no_cancel = sym (
+    cond-false _ _ _ (differs w (codes "BEGIN") (no_begin refl)) ∙ cond-false _ _ _ (differs w (codes "CANCEL") (no_cancel refl))
+    )
+alone_unknown w (Some t) no_begin no_cancel = refl
 
-pub read_begin : (bs : List ℕ) → read bs ≡ begin → bs ≡ codes "BEGIN"
-read_begin bs e = ⊎_elim
-    (λ p. absurd (authority_begin (text bs) p.1))
-    (λ p. ⊎_elim
-    (λ q. apart q.1 (λ r. omega arith))
-    (λ q. line_parts bs ∙ alone_begin (word bs) (text bs) q.1)
-    (cond_cases (bytes_eq (word bs) (codes "ERROR")) error _ begin p.1))
-    (cond_cases (bytes_eq (word bs) (codes "AUTH")) (authority (text bs)) _ begin (by_parts bs begin (λ h. apart h (λ r. omega arith)) e))
+-- a line that is none of the others is unknown
+pub unknown_line : (bs : List ℕ) → (word bs ≡ codes "AUTH" → ⊥) → (word bs ≡ codes "ERROR" → ⊥) → (text bs ≡ None → word bs ≡ codes "BEGIN" → ⊥) → (text bs ≡ None → word bs ≡ codes "CANCEL" → ⊥) → unknown ≡ read bs
+unknown_line bs no_auth no_error no_begin no_cancel = either (λ c. unknown ≡ c) (leb (length bs) 256 && printable bs) _ unknown
+    (λ _. alone_unknown (word bs) (text bs) no_begin no_cancel ∙ sym (
+    cond-false _ _ _ (differs (word bs) (codes "AUTH") no_auth) ∙ cond-false _ _ _ (differs (word bs) (codes "ERROR") no_error)
+    ))
+    (λ _. refl)

@@ -1,5 +1,7 @@
 -- How a line is read: the word before its first space, the text after it, and what the two say.
-use Rattle.std.specs.Prelude.{ℕ, Bool, true, cond, ◌&&◌, List, [], ◌∷◌, length, Some, None, codes, Option, ◌==◌, nat_le}
+use Rattle.std.specs.Prelude.{ℕ, ◌+◌, Bool, cond, ◌&&◌, List, length, drop, position, Some, None, codes, Option, ◌==◌, nat_le}
+use Rattle.std.specs.List.{list_all, before_first}
+use Rattle.std.specs.Option.{option_map}
 use Rattle.std.specs.Str.{bytes_eq}
 use Rattle.handshake.specs.declared.parse.Line.{Line}
 use Rattle.handshake.specs.declared.parse.Line.TheVariants as line
@@ -15,18 +17,15 @@ pub data Command : Type 0 where
 
 -- printable ASCII: the bytes 32 to 126
 abbrev pub printable : List ℕ → Bool
-printable [] = true
-printable (b ∷ bs) = (nat_le 32 b && nat_le b 126) && printable bs
+printable bs = list_all (λ b. nat_le 32 b && nat_le b 126) bs
 
 -- before the first space; the whole line if there is none
 abbrev pub word : List ℕ → List ℕ
-word [] = []
-word (b ∷ bs) = cond (b == 32) [] (b ∷ word bs)
+word bs = before_first (λ b. b == 32) bs
 
 -- after the first space, if there is one
 abbrev pub text : List ℕ → Option (List ℕ)
-text [] = None
-text (b ∷ bs) = cond (b == 32) (Some bs) (text bs)
+text bs = option_map (λ i. drop (i + 1) bs) (position (λ b. b == 32) bs)
 
 -- AUTH is judged if its text is EXTERNAL, a space and a text
 abbrev pub mechanism : List ℕ → Option (List ℕ) → Command

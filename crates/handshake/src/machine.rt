@@ -2,7 +2,7 @@
 ghost use Rattle.std.specs.Prelude.{◌≡◌, ℕ, List, [], ◌∷◌, ◌++◌, length, Decides};
 ghost use Rattle.handshake.specs.Lines.{meant};
 ghost use Rattle.handshake.specs.Law.{Exchange, exchanged, Conversation, Authenticated};
-ghost use Rattle.handshake.specs.Machine.{begun, turn, heard, counted, filled, fresh, moved, number as numbered};
+ghost use Rattle.handshake.specs.Machine.{begun, turn, heard, counted, filled, fresh, moved};
 
 use crate::credential::shows;
 use crate::parse::{Line, parse};
@@ -16,35 +16,25 @@ pub enum State {
     Begun,
 }
 
-impl State {
-    fn is_begun(self) -> bool
-        ensures { result ≡ begun self }
-    {
-        self == State::Begun
-    }
-}
-
 // Why a line is refused.
 #[derive(Clone, Copy, PartialEq, Eq, Debug)]
 pub enum Refusal {
     // the buffer is shorter than the longest answer
-    ShortBuffer,
+    ShortBuffer = 3,
     // the handshake is over
-    AlreadyBegun,
+    AlreadyBegun = 4,
     // BEGIN while waiting for AUTH: whoever owns the connection closes it
-    EarlyBegin,
+    EarlyBegin = 5,
 }
 
-impl Refusal {
-    // The number by which hosts know the refusal.
-    pub fn number(self) -> u8
-        ensures { result ≡ numbered self }
-    {
-        match self {
-            Refusal::ShortBuffer => 3,
-            Refusal::AlreadyBegun => 4,
-            Refusal::EarlyBegin => 5,
-        }
+// The number by which hosts know the refusal.
+impl From<Refusal> for u8 {
+    ghost use Rattle.handshake.specs.Machine.{number};
+
+    ghost from_gives = { λ refusal n. n ≡ number refusal };
+
+    fn from(refusal: Refusal) -> u8 {
+        refusal as u8
     }
 }
 
@@ -71,7 +61,7 @@ impl Handshake {
         ensures value { result ≡ begun self.now.state }
         ensures law { (id : List ℕ) (xs : List Exchange) → Conversation id self.now.uid xs self.now.state → Decides result (Authenticated id self.now.uid xs) }
     {
-        self.state.is_begun()
+        self.state == State::Begun
     }
 
     // What the line is answered, and the state that it leads to.

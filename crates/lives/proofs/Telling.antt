@@ -1,66 +1,60 @@
--- A line at a connection that has a life, by what its handshake answered.
-use Rattle.std.proofs.Common.{◌≡◌, ℕ, List, length, set, Some, None, Ok, Err, Option, Result, sym, refl, ap, ◌∙◌}
+-- A line that is refused leaves the handshake as it was.
+use Rattle.std.proofs.Common.{◌≡◌, ℕ, Bool, true, false, cond, List, set, Some, None, Ok, Err, Option, Result, ltb, sym, refl, ap, ◌∙◌}
+use Rattle.std.specs.Str.{bytes_eq}
+use Rattle.std.proofs.lemmas.List.{set-get_or}
 use Rattle.handshake.specs.declared.machine.Handshake.{Handshake}
 use Rattle.handshake.specs.declared.machine.State.{State}
-use Rattle.handshake.specs.declared.machine.Refusal as handshake
+use Rattle.handshake.specs.declared.machine.State.TheVariants.{WaitingForAuth, WaitingForBegin, Begun}
+use Rattle.handshake.specs.declared.machine.Refusal.{Refusal}
 use Rattle.handshake.specs.declared.machine.Refusal.TheVariants.{ShortBuffer, AlreadyBegun, EarlyBegin}
-use Rattle.handshake.specs.Machine.{heard, counted, filled, moved}
-use Rattle.lives.specs.declared.calls.Refusal.{Refusal}
-use Rattle.lives.specs.declared.calls.Refusal.TheVariants.{Line}
-use Rattle.lives.specs.Calls.{Table, Done, life, told, hears, lined}
+use Rattle.handshake.specs.declared.reply.Reply.{Reply}
+use Rattle.handshake.specs.declared.reply.Reply.TheVariants as reply
+use Rattle.handshake.specs.Texts.{credential}
+use Rattle.handshake.specs.Lines.{Command, external, other_auth, error, begin, cancel, unknown, read}
+use Rattle.handshake.specs.Machine.{says, refuses, turn, worded, machine, heard, moved}
+use Rattle.lives.specs.Calls.{Table, life, told, hears, lined}
 
-abbrev pub answered : Result ℕ handshake.Refusal → Result ℕ Refusal
-answered (Ok n) = Ok n
-answered (Err e) = Err (Line e)
+turn_stays : (s : State) (uid : ℕ) (c : Command) (e : Refusal) → (turn s uid c).answer ≡ Err e → (turn s uid c).next ≡ s
+turn_stays WaitingForAuth uid (external text) e a = judged (bytes_eq text (credential uid)) a
+  where
+    judged : (b : Bool) → (cond b (says reply.Okay WaitingForBegin) (says reply.Rejected WaitingForAuth)).answer ≡ Err e → (cond b (says reply.Okay WaitingForBegin) (says reply.Rejected WaitingForAuth)).next ≡ WaitingForAuth
+    judged true a = cc
+    judged false a = refl
+turn_stays WaitingForAuth uid other_auth e a = refl
+turn_stays WaitingForAuth uid error e a = refl
+turn_stays WaitingForAuth uid begin e a = refl
+turn_stays WaitingForAuth uid cancel e a = refl
+turn_stays WaitingForAuth uid unknown e a = refl
+turn_stays WaitingForBegin uid (external text) e a = refl
+turn_stays WaitingForBegin uid other_auth e a = refl
+turn_stays WaitingForBegin uid error e a = cc
+turn_stays WaitingForBegin uid begin e a = cc
+turn_stays WaitingForBegin uid cancel e a = cc
+turn_stays WaitingForBegin uid unknown e a = refl
+turn_stays Begun uid c e a = refl
 
-abbrev pub kept : Table → ℕ → Handshake → Result ℕ handshake.Refusal → Table
-kept t c h (Ok n) = set t c (Some h)
-kept t c h (Err EarlyBegin) = set t c None
-kept t c h (Err ShortBuffer) = t
-kept t c h (Err AlreadyBegun) = t
+unworded : (id : List ℕ) (a : Result Reply Refusal) (e : Refusal) → worded id a ≡ Err e → a ≡ Err e
+unworded id (Ok r) e w = cc
+unworded id (Err f) e w = cc
 
-module _ (t : Table) (c : ℕ) (h : Handshake) (s : State) where
-  told_answer : (a : Result (List ℕ) handshake.Refusal) → answered (counted a) ≡ counted (told t c h s a).answer
-  told_answer (Ok text) = refl
-  told_answer (Err EarlyBegin) = refl
-  told_answer (Err ShortBuffer) = refl
-  told_answer (Err AlreadyBegun) = refl
+pub refused_stays : (s : State) (uid : ℕ) (id line : List ℕ) (room : ℕ) (e : Refusal) → (heard s uid id line room).answer ≡ Err e → (heard s uid id line room).next ≡ s
+refused_stays s uid id line room e = by_room (ltb room 37)
+  where
+    by_room : (b : Bool) → (cond b (refuses ShortBuffer s) (machine s uid id line)).answer ≡ Err e → (cond b (refuses ShortBuffer s) (machine s uid id line)).next ≡ s
+    by_room true a = refl
+    by_room false a = turn_stays s uid (read line) e (unworded id (turn s uid (read line)).answer e a)
 
-  told_lives : (a : Result (List ℕ) handshake.Refusal) → kept t c (moved h s) (counted a) ≡ (told t c h s a).lives
-  told_lives (Ok text) = refl
-  told_lives (Err EarlyBegin) = refl
-  told_lives (Err ShortBuffer) = refl
-  told_lives (Err AlreadyBegun) = refl
+told_refused : (t : Table) (c : ℕ) (h : Handshake) (s : State) (e : Refusal) → (e ≡ EarlyBegin → ⊥) → (told t c h s (Err e)).lives ≡ t
+told_refused t c h s ShortBuffer n = refl
+told_refused t c h s AlreadyBegun n = refl
+told_refused t c h s EarlyBegin n = absurd (n refl)
 
-  told_buffer : (out : List ℕ) (a : Result (List ℕ) handshake.Refusal) → filled a out ≡ filled (told t c h s a).answer out
-  told_buffer out (Ok text) = refl
-  told_buffer out (Err EarlyBegin) = refl
-  told_buffer out (Err ShortBuffer) = refl
-  told_buffer out (Err AlreadyBegun) = refl
-
-module _ (t : Table) (id line out : List ℕ) (c : ℕ) (h : Handshake) (is : life t c ≡ Some h) where
-  abbrev answer : Result (List ℕ) handshake.Refusal
-  answer = (heard h.state h.uid id line (length out)).answer
-
-  abbrev next : State
-  next = (heard h.state h.uid id line (length out)).next
-
-  at_life : told t c h next answer ≡ lined t id c line (length out)
-  at_life = sym (ap (λ (o : Option Handshake). hears o t id c line (length out)) is)
-
-  -- the line's result, the handshake and the buffer after it say what the call answers and leaves
-  pub line_at : (r : Result ℕ handshake.Refusal) (k : Handshake) (after : List ℕ) → r ≡ counted answer → k ≡ moved h next → after ≡ filled answer out → (answered r ≡ counted (lined t id c line (length out)).answer) × (kept t c k r ≡ (lined t id c line (length out)).lives) × (after ≡ filled (lined t id c line (length out)).answer out)
-  line_at r k after e m f = (
-    ap answered e ∙ told_answer t c h next answer ∙ ap (λ (d : Done (List ℕ)). counted d.answer) at_life,
-    ap (λ (j : Handshake). kept t c j r) m
-        ∙ ap (kept t c (moved h next)) e
-        ∙ told_lives t c h next answer
-        ∙ ap (λ (d : Done (List ℕ)). d.lives) at_life,
-    f ∙ told_buffer t c h next out answer ∙ ap (λ (d : Done (List ℕ)). filled d.answer out) at_life,
-  )
-
--- where the refusal is no early BEGIN, the table stays
-pub kept_refused : (t : Table) (c : ℕ) (h : Handshake) (e : handshake.Refusal) → (e ≡ EarlyBegin → ⊥) → t ≡ kept t c h (Err e)
-kept_refused t c h EarlyBegin n = absurd (n refl)
-kept_refused t c h ShortBuffer n = refl
-kept_refused t c h AlreadyBegun n = refl
+-- so a life that refused a line may be stored again, but for an early BEGIN
+pub stored_again : (t : Table) (id line : List ℕ) (c room : ℕ) (h k : Handshake) (e : Refusal) → life t c ≡ Some h → (heard h.state h.uid id line room).answer ≡ Err e → k ≡ moved h (heard h.state h.uid id line room).next → (e ≡ EarlyBegin → ⊥) → set t c (Some k) ≡ (lined t id c line room).lives
+stored_again t id line c room h k e is refused after n =
+    let same : k ≡ h = after ∙ ap (moved h) (refused_stays h.state h.uid id line room e refused) in
+    ap (λ (o : Option Handshake). set t c o) (ap Some same ∙ sym is)
+    ∙ set-get_or t c None
+    ∙ sym (told_refused t c h (heard h.state h.uid id line room).next e n)
+    ∙ ap (λ (a : Result (List ℕ) Refusal). (told t c h (heard h.state h.uid id line room).next a).lives) (sym refused)
+    ∙ ap (λ (o : Option Handshake). (hears o t id c line room).lives) (sym is)

@@ -1,9 +1,10 @@
 // The calls that open, greet and close a life.
-ghost use Rattle.std.specs.Prelude.{◌≡◌, ◌<◌, true, List, length, is_some, Some};
-ghost use Rattle.lives.specs.Calls.{life as standing, numbered, opened, lined, closed, begun_at};
+ghost use Rattle.std.specs.Prelude.{◌≡◌, length};
+ghost use Rattle.lives.specs.Calls.{life as standing, opened, lined, closed, begun_at};
 ghost use Rattle.handshake.specs.Machine.{counted, filled};
 
-use crate::table::{CONNECTIONS, Lives};
+use crate::table::Lives;
+use connection::{Connection, NoConnection};
 use handshake::machine::{Handshake, Refusal as LineRefusal};
 
 // Why a call is refused.
@@ -17,33 +18,50 @@ pub enum Refusal {
     Line(LineRefusal),
 }
 
-impl Refusal {
-    // The number by which hosts know the refusal.
-    pub fn number(self) -> u8
-        ensures { result ≡ numbered self }
-    {
-        match self {
+impl From<NoConnection> for Refusal {
+    ghost use Rattle.lives.specs.declared.calls.Refusal.TheVariants.{NoLife};
+
+    ghost from_gives = { λ _ refusal. refusal ≡ NoLife };
+
+    fn from(_no_connection: NoConnection) -> Self {
+        Self::NoLife
+    }
+}
+
+impl From<LineRefusal> for Refusal {
+    ghost use Rattle.lives.specs.declared.calls.Refusal.TheVariants.{Line};
+
+    ghost from_gives = { λ reason refusal. refusal ≡ Line reason };
+
+    fn from(reason: LineRefusal) -> Self {
+        Self::Line(reason)
+    }
+}
+
+// The number by which hosts know the refusal.
+impl From<Refusal> for u8 {
+    ghost use Rattle.lives.specs.Calls.{numbered};
+
+    ghost from_gives = { λ refusal n. n ≡ numbered refusal };
+
+    fn from(refusal: Refusal) -> u8 {
+        match refusal {
             Refusal::NoLife => 1,
             Refusal::Taken => 2,
-            Refusal::Line(refusal) => refusal.number(),
+            Refusal::Line(reason) => u8::from(reason),
         }
     }
 }
 
 impl Lives {
-    fn life(&self, c: u8) -> Option<Handshake>
-        ensures value { result ≡ standing self.now.table c }
-        ensures within { is_some result ≡ true → c < 16 }
-    {
-        let i = usize::from(c);
-        if i < CONNECTIONS { self.table[i] } else { None }
-    }
-
     // Whether c has a life that has begun.
     pub fn has_begun(&self, c: u8) -> bool
         ensures { result ≡ begun_at (standing self.now.table c) }
     {
-        match self.life(c) {
+        let Ok(c) = Connection::try_from(c) else {
+            return false;
+        };
+        match self.table[c.index()] {
             Some(life) => life.has_begun(),
             None => false,
         }
@@ -55,46 +73,13 @@ impl Lives {
         ensures lives { self.new.table ≡ (opened self.old.table c uid).lives }
         ensures id { self.new.id ≡ self.old.id }
     {
-        let i = usize::from(c);
-        if i >= CONNECTIONS {
-            return Err(Refusal::NoLife);
-        }
-        let life = self.table[i];
-        if life.is_some() {
+        let c = Connection::try_from(c)?;
+        let place = &mut self.table[c.index()];
+        if place.is_some() {
             return Err(Refusal::Taken);
         }
-        self.table[i] = Some(Handshake::new(uid));
+        *place = Some(Handshake::new(uid));
         Ok(())
-    }
-
-    // The line at a connection that has this life.
-    fn hear(
-        &mut self,
-        c: u8,
-        mut life: Handshake,
-        line: &[u8],
-        out: &mut [u8],
-    ) -> Result<usize, Refusal>
-        requires within { c < 16 }
-        requires found { standing self.old.table c ≡ Some life }
-        ensures answer { result ≡ counted (lined self.old.table self.old.id c line.now (length out.old)).answer }
-        ensures lives { self.new.table ≡ (lined self.old.table self.old.id c line.now (length out.old)).lives }
-        ensures buffer { out.new ≡ filled (lined self.old.table self.old.id c line.now (length out.old)).answer out.old }
-        ensures id { self.new.id ≡ self.old.id }
-    {
-        let i = usize::from(c);
-        match life.line(&self.id, line, out) {
-            Ok(count) => {
-                self.table[i] = Some(life);
-                Ok(count)
-            }
-            Err(refusal) => {
-                if refusal == LineRefusal::EarlyBegin {
-                    self.table[i] = None;
-                }
-                Err(Refusal::Line(refusal))
-            }
-        }
     }
 
     // Gives the life at c a line. The answer is written to the buffer's front, and its length is answered.
@@ -104,10 +89,15 @@ impl Lives {
         ensures buffer { out.new ≡ filled (lined self.old.table self.old.id c line.now (length out.old)).answer out.old }
         ensures id { self.new.id ≡ self.old.id }
     {
-        match self.life(c) {
-            None => Err(Refusal::NoLife),
-            Some(life) => self.hear(c, life, line, out),
+        let c = Connection::try_from(c)?;
+        let Lives { id, table } = self;
+        let place = &mut table[c.index()];
+        let life = place.as_mut().ok_or(Refusal::NoLife)?;
+        let answer = life.line(id, line, out);
+        if answer == Err(LineRefusal::EarlyBegin) {
+            *place = None;
         }
+        Ok(answer?)
     }
 
     // Ends the life at c.
@@ -116,11 +106,10 @@ impl Lives {
         ensures lives { self.new.table ≡ (closed self.old.table c).lives }
         ensures id { self.new.id ≡ self.old.id }
     {
-        if self.life(c).is_none() {
+        let c = Connection::try_from(c)?;
+        if self.table[c.index()].take().is_none() {
             return Err(Refusal::NoLife);
         }
-        let i = usize::from(c);
-        self.table[i] = None;
         Ok(())
     }
 }

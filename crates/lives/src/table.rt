@@ -1,16 +1,14 @@
 // What the table holds.
 ghost use Rattle.std.specs.Prelude.{◌≡◌, length, replicate, None};
 
+use connection::CONNECTIONS;
 use handshake::machine::Handshake;
-
-// How many connection numbers there are.
-pub const CONNECTIONS: usize = 16;
 
 // The lives of sixteen connections. A life is what stands at a connection number from an accepted open until it is closed.
 #[derive(Drop)]
 pub struct Lives {
     pub(crate) id: [u8; 16],
-    pub(crate) table: [Option<Handshake>; 16],
+    pub(crate) table: [Option<Handshake>; CONNECTIONS],
     ghost all: { length table ≡ 16 },
 }
 
@@ -22,7 +20,7 @@ impl Lives {
     {
         Lives {
             id,
-            table: [None; 16],
+            table: [None; CONNECTIONS],
         }
     }
 }
