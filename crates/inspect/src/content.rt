@@ -3,14 +3,11 @@ use crate::failure::Failure;
 use crate::reader::Reader;
 use crate::value::{LEVELS, plain, values, variant};
 use crate::words::{field_name, order_in_words};
-use fields::{Field, Fields, field_of};
-use frame::{Frame, Kind};
+use fields::{Field, Fields, UnknownField};
+use frame::{FRAME_SIZE, Frame, Kind};
 use message::Layout;
 use signature::{Alignment, Basic};
 use std::alloc::{AllocError, Global};
-
-// Where the fields begin.
-const START: usize = 16;
 
 // The known fields, as they come one after the other.
 const KNOWN: [Field; 8] = [
@@ -89,9 +86,9 @@ fn unknown_fields(text: &mut String, reader: &mut Reader, end: usize) -> Result<
         }
         reader.pad(Alignment::Eight);
         let code = reader.read_u8()?;
-        match field_of(code) {
-            Some(field) => pass(reader, field)?,
-            None => {
+        match Field::try_from(code) {
+            Ok(field) => pass(reader, field)?,
+            Err(UnknownField) => {
                 write!(text, "\n  field {code} ")?;
                 variant(text, reader, LEVELS)?;
             }
@@ -112,13 +109,13 @@ fn types_of<'a>(reader: Reader<'a>, fields: Fields) -> Result<&'a [u8], Failure>
 pub fn content(heap: Global, bytes: &[u8], layout: Layout) -> Result<String, Failure> {
     let Layout { frame, fields } = layout;
     let mut text = framed(heap, frame, bytes.len())?;
-    let mut reader = Reader::new(bytes, frame.order, START);
+    let mut reader = Reader::new(bytes, frame.order, FRAME_SIZE);
     for field in KNOWN {
         if let Some(at) = fields.place(field) {
             known_field(&mut text, reader.moved_to(at), field)?;
         }
     }
-    unknown_fields(&mut text, &mut reader, START + frame.fields as usize)?;
+    unknown_fields(&mut text, &mut reader, FRAME_SIZE + frame.fields as usize)?;
     reader.pad(Alignment::Eight);
     let types = types_of(reader, fields)?;
     if !types.is_empty() {
