@@ -1,7 +1,6 @@
 // Reading the fields.
 ghost use Rattle.std.specs.Prelude.{◌≡◌, ◌+◌, ◌-◌, ◌^◌, ◌<◌, ◌≤◌, length, take, Ok as Fine, Decides, IsTrue};
 ghost use Rattle.items.specs.Items.{Typed, codes_at, text_at};
-ghost use Rattle.items.specs.Faults.{flaw as flaw_of};
 ghost use Rattle.fields.specs.Known.{known};
 ghost use Rattle.fields.specs.Headers.{place_of, Free, Own, start as start_of_lem, noted, Proper, Coded, Kinded, Fitting, Valued, OneField, AllFields, none_yet, Header};
 ghost use Rattle.fields.specs.Words.{has_word};
@@ -10,7 +9,7 @@ use crate::Fields;
 use crate::known::{Field, UnknownField};
 use area::front;
 use frame::FRAME_SIZE;
-use items::{Cause, Flaw, Span, gap, pad, type_code, word};
+use items::{Cause, Flaw, Place, Span, gap};
 use order::ByteOrder;
 use signature::Alignment;
 use text::{bus_name, is_interface, is_member};
@@ -20,12 +19,6 @@ use values::values;
 const NOTHING: u8 = 0;
 
 const FILE_DESCRIPTORS: u8 = 9;
-
-fn flaw(cause: Cause, byte: usize) -> Flaw
-    ensures { result ≡ flaw_of cause byte }
-{
-    Flaw { cause, byte }
-}
 
 // Where the value of a field begins, its padding passed.
 fn start(field: Option<Field>, at: usize) -> usize
@@ -42,16 +35,21 @@ fn start(field: Option<Field>, at: usize) -> usize
 fn is_own(field: Option<Field>, codes: &[u8]) -> bool
     ensures { Decides result (Own field codes.now) }
 {
-    field.is_none_or(|known| codes.len() == 1 && codes[0] == known.value_type().code())
+    field.is_none_or(|known| codes.len() == 1 && codes[0] == u8::from(known.value_type()))
 }
 
 // The end of the type of a field.
 fn type_end(area: &[u8], field: Option<Field>, at: usize) -> Result<usize, Flaw>
     ensures { Kinded area.now field at result }
 {
-    let end = type_code(area, at, 0)?;
+    let place = Place {
+        area,
+        at,
+        around: 0,
+    };
+    let end = place.type_code()?;
     if !is_own(field, &area[at + 1..end - 1]) {
-        return Err(flaw(Cause::Field, at));
+        return Err(Cause::Field.at(at));
     }
     Ok(end)
 }
@@ -59,31 +57,31 @@ fn type_end(area: &[u8], field: Option<Field>, at: usize) -> Result<usize, Flaw>
 // A value that is well, of a field that is known or not.
 #[derive(Clone, Copy)]
 struct Found<'a> {
-    area: &'a [u8],
+    place: Place<'a>,
     field: Option<Field>,
-    start: usize,
     end: usize,
-    ghost room: { IsTrue (has_word field) → start + 4 ≤ length area.now },
+    ghost room: { IsTrue (has_word field) → place.at + 4 ≤ length place.area.now },
 }
 
 impl<'a> Found<'a> {
     // The bytes of the text.
     fn text<O: ByteOrder>(self) -> &'a [u8]
-        requires { self.start + 4 ≤ length self.area.now }
-        ensures { result.now ≡ text_at self.entry.area.now O.ByteOrder.ordered self.entry.start }
+        requires { self.place.at + 4 ≤ length self.place.area.now }
+        ensures { result.now ≡ text_at self.entry.place.area.now O.ByteOrder.ordered self.entry.place.at }
     {
-        let size = word::<O>(self.area, self.start).unwrap_or(0) as usize;
-        front(&self.area[self.start + 4..], size)
+        let Place { area, at, .. } = self.place;
+        let size = self.place.word::<O>().unwrap_or(0) as usize;
+        front(&area[at + 4..], size)
     }
 
     // Whether the value is a name as the field asks, or a serial.
     fn is_proper<O: ByteOrder>(self) -> bool
-        ensures { Decides result (Proper O.ByteOrder.ordered self.entry.area.now self.entry.field self.entry.start) }
+        ensures { Decides result (Proper O.ByteOrder.ordered self.entry.place.area.now self.entry.field self.entry.place.at) }
     {
         match self.field {
             Some(Field::Interface | Field::ErrorName) => is_interface(self.text::<O>()),
             Some(Field::Member) => is_member(self.text::<O>()),
-            Some(Field::ReplySerial) => word::<O>(self.area, self.start).unwrap_or(0) != 0,
+            Some(Field::ReplySerial) => self.place.word::<O>().unwrap_or(0) != 0,
             Some(Field::Destination | Field::Sender) => bus_name(self.text::<O>()).is_some(),
             Some(Field::Path | Field::Signature) | None => true,
         }
@@ -112,23 +110,23 @@ impl Fields {
     fn code_at(&self, area: &[u8], at: usize) -> Result<u8, Flaw>
         ensures { Coded area.now self.now at result }
     {
-        let code = *area.get(at).ok_or(flaw(Cause::PastEnd, at))?;
+        let code = *area.get(at).ok_or(Cause::PastEnd.at(at))?;
         if !self.is_free(code) {
-            return Err(flaw(Cause::Field, at));
+            return Err(Cause::Field.at(at));
         }
         Ok(code)
     }
 
     // The fields with one more.
     fn with<O: ByteOrder>(self, found: Found) -> Result<Fields, Flaw>
-        ensures { Fitting O.ByteOrder.ordered found.entry.area.now self found.entry.field found.entry.start found.entry.end result }
+        ensures { Fitting O.ByteOrder.ordered found.entry.place.area.now self found.entry.field found.entry.place.at found.entry.end result }
     {
         if !found.is_proper::<O>() {
-            return Err(flaw(Cause::Name, found.start));
+            return Err(Cause::Name.at(found.place.at));
         }
         let mut places = self.places;
         if let Some(known) = found.field {
-            places[known.index()] = Some(found.start);
+            places[known.index()] = Some(found.place.at);
         }
         Ok(Fields {
             places,
@@ -169,12 +167,12 @@ impl<'a> Reader<'a> {
             to: at - 1,
         };
         let end = values::<O>(self.bytes, codes, at, self.end)?;
-        fields.with::<O>(Found {
+        let place = Place {
             area: self.area(),
-            field,
-            start: start(field, at),
-            end,
-        })
+            at: start(field, at),
+            around: 0,
+        };
+        fields.with::<O>(Found { place, field, end })
     }
 
     // The fields with one more.
@@ -182,7 +180,12 @@ impl<'a> Reader<'a> {
         ensures { OneField O.ByteOrder.ordered self.entry.bytes.now self.entry.end fields result }
     {
         let area = self.area();
-        let start = pad(area, fields.at, Alignment::Eight)?;
+        let padding = Place {
+            area,
+            at: fields.at,
+            around: 0,
+        };
+        let start = padding.pad(Alignment::Eight)?;
         let code = fields.code_at(area, start)?;
         let field = Field::try_from(code).ok();
         let kind = start + 1;
@@ -210,9 +213,14 @@ pub fn read_fields<O: ByteOrder>(bytes: &[u8], end: usize) -> Result<Fields, Fla
     ensures { Header O.ByteOrder.ordered bytes.now end result }
 {
     if end < FRAME_SIZE || end > bytes.len() {
-        return Err(flaw(Cause::PastEnd, FRAME_SIZE));
+        return Err(Cause::PastEnd.at(FRAME_SIZE));
     }
     let fields = Reader { bytes, end }.fields::<O>()?;
-    let _ = pad(bytes, end, Alignment::Eight)?;
+    let padding = Place {
+        area: bytes,
+        at: end,
+        around: 0,
+    };
+    let _ = padding.pad(Alignment::Eight)?;
     Ok(fields)
 }

@@ -1,7 +1,7 @@
 // Reading the frame of a message.
 ghost use Rattle.std.specs.Prelude.{◌≡◌, ◌+◌, ◌<◌, length, Decides, MatchResult};
 ghost use Rattle.items.specs.declared.fault.Cause.TheVariants.{TooShort};
-ghost use Rattle.items.specs.Faults.{flaw as flaw_of, Is};
+ghost use Rattle.items.specs.Faults.{flaw, Is};
 ghost use Rattle.items.specs.Items.{aligned};
 ghost use Rattle.frame.specs.Firsts.{FirstOf};
 ghost use Rattle.frame.specs.Frames.{Framed, Begun, frame_at};
@@ -13,12 +13,6 @@ use signature::Alignment;
 
 // The version of the format.
 const VERSION: u8 = 1;
-
-fn flaw(cause: Cause, byte: usize) -> Flaw
-    ensures { result ≡ flaw_of cause byte }
-{
-    Flaw { cause, byte }
-}
 
 // The first 16 bytes, one by one.
 #[derive(Clone, Copy)]
@@ -34,7 +28,7 @@ pub(crate) struct First {
 
 impl First {
     fn of(bytes: &[u8]) -> Result<First, Flaw>
-        ensures { MatchResult result (λ x. FirstOf bytes.now x) (λ f. (length bytes.now < FRAME_SIZE) × (f ≡ flaw_of TooShort 0)) }
+        ensures { MatchResult result (λ x. FirstOf bytes.now x) (λ f. (length bytes.now < FRAME_SIZE) × (f ≡ flaw TooShort 0)) }
     {
         let [
             mark,
@@ -56,7 +50,7 @@ impl First {
             ..
         ] = bytes
         else {
-            return Err(flaw(Cause::TooShort, 0));
+            return Err(Cause::TooShort.at(0));
         };
         Ok(First {
             mark: *mark,
@@ -75,10 +69,10 @@ fn begun(bytes: &[u8]) -> Result<Frame, Flaw>
     ensures { Begun bytes.now (Is (frame_at bytes.now)) result }
 {
     let first = First::of(bytes)?;
-    let order = Order::try_from(first.mark).map_err(|_| flaw(Cause::ByteOrder, 0))?;
-    let kind = Kind::try_from(first.kind).map_err(|_| flaw(Cause::NoType, 1))?;
+    let order = Order::try_from(first.mark).map_err(|_| Cause::ByteOrder.at(0))?;
+    let kind = Kind::try_from(first.kind).map_err(|_| Cause::NoType.at(1))?;
     if first.version != VERSION {
-        return Err(flaw(Cause::Version, 3));
+        return Err(Cause::Version.at(3));
     }
     Ok(Frame {
         order,
@@ -107,10 +101,10 @@ pub fn read_frame(bytes: &[u8], limit: usize) -> Result<Frame, Flaw>
 {
     let frame = begun(bytes)?;
     if bytes.len() > limit || !frame.is_length(bytes.len()) {
-        return Err(flaw(Cause::Length, 4));
+        return Err(Cause::Length.at(4));
     }
     if frame.serial == 0 {
-        return Err(flaw(Cause::NoSerial, 8));
+        return Err(Cause::NoSerial.at(8));
     }
     Ok(frame)
 }

@@ -7,9 +7,9 @@ ghost use Rattle.signature.specs.Trees.{Element, spell_element};
 ghost use Rattle.values.specs.Walks.{Owed, Of, Somewhere, Moved, Stepped, Passed, weight};
 
 use area::front;
-use items::{Flaw, array, basic, structure, type_code};
+use items::{Flaw, Place};
 use order::ByteOrder;
-use signature::{Alignment, Basic, Head, element_end, head_of};
+use signature::{Alignment, Basic, Head, element_end};
 
 // An array, struct, dict entry or variant around the place where a walk stands.
 #[derive(Clone, Copy)]
@@ -40,9 +40,9 @@ pub struct Walk {
 fn alignment_of(code: u8) -> Alignment
     ensures { (h : HeadOf) → head_code h ≡ code → result ≡ align h }
 {
-    match head_of(code) {
-        Some(head) => head.alignment(),
-        None => Alignment::One,
+    match Head::try_from(code) {
+        Ok(head) => head.alignment(),
+        Err(_) => Alignment::One,
     }
 }
 
@@ -66,7 +66,12 @@ impl Walk {
         ensures goes { Stepped O.ByteOrder.ordered bytes.now self.old self.new result }
         ensures falls { is_ok result ≡ true → weight (length bytes.now) self.new < weight (length bytes.now) self.old }
     {
-        let at = basic::<O>(front(bytes, self.end), self.at, kind, self.depth)?;
+        let place = Place {
+            area: front(bytes, self.end),
+            at: self.at,
+            around: self.depth,
+        };
+        let at = place.basic::<O>(kind)?;
         self.at = at;
         self.code += 1;
         self.past = true;
@@ -80,7 +85,12 @@ impl Walk {
         ensures goes { Stepped O.ByteOrder.ordered bytes.now self.old self.new result }
         ensures falls { is_ok result ≡ true → weight (length bytes.now) self.new < weight (length bytes.now) self.old }
     {
-        let at = structure(front(bytes, self.end), self.at, self.depth)?;
+        let place = Place {
+            area: front(bytes, self.end),
+            at: self.at,
+            around: self.depth,
+        };
+        let at = place.structure()?;
         self.frames[self.depth] = Frame::Struct;
         self.depth += 1;
         self.code += 1;
@@ -98,7 +108,12 @@ impl Walk {
         let element = self.code + 1;
         let alignment = alignment_of(bytes[element]);
         let outer = self.end;
-        let span = array::<O>(front(bytes, outer), self.at, alignment, self.depth)?;
+        let place = Place {
+            area: front(bytes, outer),
+            at: self.at,
+            around: self.depth,
+        };
+        let span = place.array::<O>(alignment)?;
         self.at = span.from;
         if span.from < span.to {
             self.frames[self.depth] = Frame::Array { element, outer };
@@ -119,7 +134,12 @@ impl Walk {
         ensures goes { Stepped O.ByteOrder.ordered bytes.now self.old self.new result }
         ensures falls { is_ok result ≡ true → weight (length bytes.now) self.new < weight (length bytes.now) self.old }
     {
-        let at = type_code(front(bytes, self.end), self.at, self.depth)?;
+        let place = Place {
+            area: front(bytes, self.end),
+            at: self.at,
+            around: self.depth,
+        };
+        let at = place.type_code()?;
         self.frames[self.depth] = Frame::Variant {
             codes: self.code + 1,
         };
@@ -136,13 +156,13 @@ impl Walk {
         ensures goes { Stepped O.ByteOrder.ordered bytes.now self.old self.new result }
         ensures falls { is_ok result ≡ true → weight (length bytes.now) self.new < weight (length bytes.now) self.old }
     {
-        match head_of(bytes[self.code]) {
-            Some(Head::Basic(kind)) => self.basic::<O>(bytes, kind),
-            Some(Head::Variant) => self.variant::<O>(bytes),
-            Some(Head::Array) => self.array::<O>(bytes),
-            Some(Head::Struct) => self.structure::<O>(bytes),
-            Some(Head::Entry) => self.structure::<O>(bytes),
-            None => unreachable(),
+        match Head::try_from(bytes[self.code]) {
+            Ok(Head::Basic(kind)) => self.basic::<O>(bytes, kind),
+            Ok(Head::Variant) => self.variant::<O>(bytes),
+            Ok(Head::Array) => self.array::<O>(bytes),
+            Ok(Head::Struct) => self.structure::<O>(bytes),
+            Ok(Head::Entry) => self.structure::<O>(bytes),
+            Err(_) => unreachable(),
         }
     }
 

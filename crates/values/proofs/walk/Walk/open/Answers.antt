@@ -9,4 +9,4 @@ bounds-bytes-self g c =
 pub unreachable-requires : goal.unreachable-requires
 unreachable-requires g c =
     let s = c.requires.here in
-    absurd (no_head g.O.ByteOrder.ordered c.args.bytes.now s.codes_end s.end c.args.self.now c.requires.flat s.owed s.of c.in-None.ensures)
+    absurd (no_head g.O.ByteOrder.ordered c.args.bytes.now s.codes_end s.end c.args.self.now c.requires.flat s.owed s.of c.in-Err.ensures)
