@@ -1,40 +1,15 @@
 // The values of a message, and whether they lie as their types ask.
 #![tactic(auto)]
 
-ghost use Rattle.std.specs.Prelude.{◌≡◌, ◌≤◌, length, Decides};
-ghost use Rattle.values.specs.Values.{Read, Decided, Spelled, OfTypes};
+ghost use Rattle.std.specs.Prelude.{Decides};
+ghost use Rattle.values.specs.Values.{Read, Decided, Spelled};
 
 mod walk;
 
 use items::{Cause, Flaw, Span};
 use order::ByteOrder;
 use signature::is_signature;
-use walk::{Frame, Walk};
-
-// Walks through values of the types of a signature.
-fn walked<O: ByteOrder>(bytes: &[u8], codes: Span, at: usize, end: usize) -> Result<usize, Flaw>
-    requires codes { Spelled bytes.now codes }
-    requires place { (at ≤ end) × (end ≤ length bytes.now) }
-    ensures { OfTypes O.ByteOrder.ordered bytes.now codes at end result }
-{
-    let mut walk = Walk {
-        frames: [Frame::Struct; 65],
-        depth: 0,
-        code: codes.from,
-        at,
-        end,
-        past: true,
-    };
-    loop {
-        if walk.past {
-            if walk.close::<O>(bytes, codes.to) {
-                return Ok(walk.at);
-            }
-        } else {
-            walk.open::<O>(bytes)?;
-        }
-    }
-}
+use walk::walked;
 
 // Whether a span lies in the message and holds a signature.
 fn spells(bytes: &[u8], codes: Span) -> bool
