@@ -15,12 +15,14 @@ use walk::walked;
 fn spells(bytes: &[u8], codes: Span) -> bool
     ensures { Decides result (Spelled bytes.now codes) }
 {
-    let Span { from, to } = codes;
-    from <= to && to <= bytes.len() && is_signature(&bytes[from..to])
+    bytes
+        .get(codes.from..codes.to)
+        .is_some_and(|types| is_signature(types))
 }
 
 // Where the values end that lie from `at` on, of the types of a signature that lies in the message too; or the first flaw.
 // `end` is the end of the part of the message that they are in.
+#[tactic(auto, using(crate::proofs::Once::decided))]
 pub fn values<O: ByteOrder>(bytes: &[u8], codes: Span, at: usize, end: usize) -> Result<usize, Flaw>
     ensures value { Read O.ByteOrder.ordered bytes.now codes at end result }
     ensures once { Decided }
