@@ -116,7 +116,7 @@ fn is_own(field: Option<Field>, codes: &[u8]) -> bool
     ensures { Decides result (Own field codes.now) }
 {
     match field {
-        Some(known) => codes.len() == 1 && codes[0] == known.value_type().code(),
+        Some(known) => codes.len() == 1 && codes[0] == u8::from(known.value_type()),
         None => true,
     }
 }

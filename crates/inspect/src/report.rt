@@ -35,8 +35,8 @@ fn fault_in_words(heap: Global, fault: Fault) -> Result<String, AllocError> {
         "fault in {} at byte {byte}: {} (part {}, cause {})",
         part_in_words(part),
         cause_in_words(cause),
-        part.number(),
-        cause.number()
+        u8::from(part),
+        u8::from(cause)
     )
 }
 

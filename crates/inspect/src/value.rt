@@ -1,7 +1,7 @@
 // Showing values.
 use crate::failure::Failure;
 use crate::reader::Reader;
-use signature::{Basic, Head, element_end, head_of};
+use signature::{Basic, Head, element_end};
 
 // How deep values nest: at most 64 stand around one.
 pub const LEVELS: usize = 65;
@@ -55,9 +55,9 @@ fn opened(codes: &[u8]) -> Result<(Head, &[u8]), Failure> {
     let Some((first, inner)) = codes.split_first() else {
         return Err(Failure::Unreadable);
     };
-    match head_of(*first) {
-        Some(head) => Ok((head, inner)),
-        None => Err(Failure::Unreadable),
+    match Head::try_from(*first) {
+        Ok(head) => Ok((head, inner)),
+        Err(_) => Err(Failure::Unreadable),
     }
 }
 

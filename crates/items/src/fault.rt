@@ -1,37 +1,37 @@
 // What is wrong with bytes that are no message.
 ghost use Rattle.std.specs.Prelude.{◌≡◌};
-ghost use Rattle.items.specs.Faults.{cause_number, part_number};
+ghost use Rattle.items.specs.Faults.{cause_number, part_number, flaw};
 
-// The part of a message that a fault is in.
+// The part of a message that a fault is in, with its number.
 #[derive(Clone, Copy, PartialEq, Eq, Debug)]
 pub enum Part {
-    Frame,
-    Fields,
-    Body,
+    Frame = 1,
+    Fields = 2,
+    Body = 3,
 }
 
-// What is wrong.
+// What is wrong, with its number.
 #[derive(Clone, Copy, PartialEq, Eq, Debug)]
 pub enum Cause {
     // the frame
-    TooShort,
-    ByteOrder,
-    NoType,
-    Version,
-    Length,
-    NoSerial,
+    TooShort = 1,
+    ByteOrder = 2,
+    NoType = 3,
+    Version = 4,
+    Length = 5,
+    NoSerial = 6,
     // an item
-    Padding,
-    PastEnd,
-    Text,
-    Boolean,
-    Name,
-    Signature,
-    Depth,
-    Field,
+    Padding = 7,
+    PastEnd = 8,
+    Text = 9,
+    Boolean = 10,
+    Name = 11,
+    Signature = 12,
+    Depth = 13,
+    Field = 14,
     // the whole
-    MissingField,
-    LeftOver,
+    MissingField = 15,
+    LeftOver = 16,
 }
 
 // What is wrong, and at which byte.
@@ -49,39 +49,27 @@ pub struct Fault {
     pub byte: usize,
 }
 
-impl Part {
-    pub fn number(self) -> u8
-        ensures { result ≡ part_number self }
-    {
-        match self {
-            Part::Frame => 1,
-            Part::Fields => 2,
-            Part::Body => 3,
-        }
+impl From<Part> for u8 {
+    ghost from_gives = { λ part r. r ≡ part_number part };
+
+    fn from(part: Part) -> u8 {
+        part as u8
+    }
+}
+
+impl From<Cause> for u8 {
+    ghost from_gives = { λ cause r. r ≡ cause_number cause };
+
+    fn from(cause: Cause) -> u8 {
+        cause as u8
     }
 }
 
 impl Cause {
-    pub fn number(self) -> u8
-        ensures { result ≡ cause_number self }
+    // This cause, at a byte.
+    pub fn at(self, byte: usize) -> Flaw
+        ensures { result ≡ flaw self byte }
     {
-        match self {
-            Cause::TooShort => 1,
-            Cause::ByteOrder => 2,
-            Cause::NoType => 3,
-            Cause::Version => 4,
-            Cause::Length => 5,
-            Cause::NoSerial => 6,
-            Cause::Padding => 7,
-            Cause::PastEnd => 8,
-            Cause::Text => 9,
-            Cause::Boolean => 10,
-            Cause::Name => 11,
-            Cause::Signature => 12,
-            Cause::Depth => 13,
-            Cause::Field => 14,
-            Cause::MissingField => 15,
-            Cause::LeftOver => 16,
-        }
+        Flaw { cause: self, byte }
     }
 }

@@ -22,7 +22,7 @@ fn ensure(holds: bool, cause: Cause, byte: usize) -> Result<(), Flaw>
     if holds {
         Ok(())
     } else {
-        Err(Flaw { cause, byte })
+        Err(cause.at(byte))
     }
 }
 
@@ -32,10 +32,7 @@ fn end_of(area: &[u8], at: usize, size: usize) -> Result<usize, Flaw>
 {
     match at.checked_add(size) {
         Some(end) if end <= area.len() => Ok(end),
-        _ => Err(Flaw {
-            cause: Cause::PastEnd,
-            byte: at,
-        }),
+        _ => Err(Cause::PastEnd.at(at)),
     }
 }
 

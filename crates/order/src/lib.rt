@@ -1,11 +1,10 @@
 // The byte order of a message: how the bytes of a number lie in it.
 #![tactic(auto)]
 
-ghost use Rattle.std.specs.Prelude.{◌≡◌, ℕ, List, reverse, length};
+ghost use Rattle.std.specs.Prelude.{◌≡◌, ℕ, List, reverse, length, refl};
 ghost use Rattle.std.proofs.lemmas.List.{reverse-reverse, length-reverse};
 ghost use Rattle.std.specs.List.{AllByRecursion};
 ghost use Rattle.order.specs.Numbers.{Byte, Keeps, Mirrors, as_they_lie, number, bytes_of};
-ghost use Rattle.std.proofs.Common.{rules};
 ghost use Rattle.order.specs.Spreads.{all_reverse};
 
 // An order of bytes. Code over any order is proved once, from its laws.
@@ -13,23 +12,54 @@ pub trait ByteOrder {
     // the bytes as they lie, put the least significant first; and back
     ghost ordered: { List ℕ → List ℕ };
 
-    fn u16_of(bytes: [u8; 2]) -> u16
-        ensures { result ≡ number (ordered bytes) };
+    // Puts bytes as they lie least significant first, or back.
+    fn arrange(bytes: &mut [u8])
+        ensures { bytes.new ≡ ordered bytes.old };
 
-    fn u32_of(bytes: [u8; 4]) -> u32
-        ensures { result ≡ number (ordered bytes) };
+    fn u16_of(mut bytes: [u8; 2]) -> u16
+        ensures { result ≡ number (ordered bytes) }
+    {
+        Self::arrange(&mut bytes);
+        u16::from_le_bytes(bytes)
+    }
 
-    fn u64_of(bytes: [u8; 8]) -> u64
-        ensures { result ≡ number (ordered bytes) };
+    fn u32_of(mut bytes: [u8; 4]) -> u32
+        ensures { result ≡ number (ordered bytes) }
+    {
+        Self::arrange(&mut bytes);
+        u32::from_le_bytes(bytes)
+    }
+
+    fn u64_of(mut bytes: [u8; 8]) -> u64
+        ensures { result ≡ number (ordered bytes) }
+    {
+        Self::arrange(&mut bytes);
+        u64::from_le_bytes(bytes)
+    }
 
     fn bytes_of_u16(x: u16) -> [u8; 2]
-        ensures { result ≡ ordered (bytes_of 2 x) };
+        ensures { result ≡ ordered (bytes_of 2 x) }
+    {
+        let mut bytes = x.to_le_bytes();
+        Self::arrange(&mut bytes);
+        bytes
+    }
 
     fn bytes_of_u32(x: u32) -> [u8; 4]
-        ensures { result ≡ ordered (bytes_of 4 x) };
+        ensures { result ≡ ordered (bytes_of 4 x) }
+    {
+        let mut bytes = x.to_le_bytes();
+        Self::arrange(&mut bytes);
+        bytes
+    }
 
     fn bytes_of_u64(x: u64) -> [u8; 8]
-        ensures { result ≡ ordered (bytes_of 8 x) };
+        ensures { result ≡ ordered (bytes_of 8 x) }
+    {
+        let mut bytes = x.to_le_bytes();
+        Self::arrange(&mut bytes);
+        bytes
+    }
 
     ghost twice: { (xs : List ℕ) → ordered (ordered xs) ≡ xs };
 
@@ -47,35 +77,13 @@ pub struct Big;
 impl ByteOrder for Little {
     ghost ordered = { as_they_lie };
 
-    ghost twice = { Prim.search rules };
+    ghost twice = { λ xs. refl };
 
-    ghost size = { Prim.search rules };
+    ghost size = { λ xs. refl };
 
-    ghost bytes = { Prim.search rules };
+    ghost bytes = { λ xs h. h };
 
-    fn u16_of(bytes: [u8; 2]) -> u16 {
-        u16::from_le_bytes(bytes)
-    }
-
-    fn u32_of(bytes: [u8; 4]) -> u32 {
-        u32::from_le_bytes(bytes)
-    }
-
-    fn u64_of(bytes: [u8; 8]) -> u64 {
-        u64::from_le_bytes(bytes)
-    }
-
-    fn bytes_of_u16(x: u16) -> [u8; 2] {
-        x.to_le_bytes()
-    }
-
-    fn bytes_of_u32(x: u32) -> [u8; 4] {
-        x.to_le_bytes()
-    }
-
-    fn bytes_of_u64(x: u64) -> [u8; 8] {
-        x.to_le_bytes()
-    }
+    fn arrange(_bytes: &mut [u8]) {}
 }
 
 impl ByteOrder for Big {
@@ -87,28 +95,8 @@ impl ByteOrder for Big {
 
     ghost bytes = { λ xs h. all_reverse Byte xs h };
 
-    fn u16_of(bytes: [u8; 2]) -> u16 {
-        u16::from_be_bytes(bytes)
-    }
-
-    fn u32_of(bytes: [u8; 4]) -> u32 {
-        u32::from_be_bytes(bytes)
-    }
-
-    fn u64_of(bytes: [u8; 8]) -> u64 {
-        u64::from_be_bytes(bytes)
-    }
-
-    fn bytes_of_u16(short: u16) -> [u8; 2] {
-        short.to_be_bytes()
-    }
-
-    fn bytes_of_u32(word: u32) -> [u8; 4] {
-        word.to_be_bytes()
-    }
-
-    fn bytes_of_u64(long: u64) -> [u8; 8] {
-        long.to_be_bytes()
+    fn arrange(bytes: &mut [u8]) {
+        bytes.reverse();
     }
 }
 

@@ -1,11 +1,16 @@
 -- What the head at the front of bytes tells of the type there, and types one after the other.
-use Rattle.std.proofs.Common.{◌≡◌, ℕ, ◌+◌, ◌-◌, ◌<◌, ◌≤◌, List, [], ◌∷◌, ◌++◌, length, drop, Some, None, Option, sym, refl, ap, ◌∙◌, subst, arith, MatchOption}
+use Rattle.std.proofs.Common.{◌≡◌, ℕ, ◌+◌, ◌-◌, ◌<◌, ◌≤◌, Bool, true, false, Decides, List, [], ◌∷◌, ◌++◌, length, drop, Some, None, Ok, Err, Option, Result, sym, refl, ap, ◌∙◌, subst, arith, MatchOption, ◌⊎◌, inl, inr}
+use Rattle.std.specs.Result.{result_ok}
+use Rattle.std.specs.Bool.{then_some}
+use Rattle.std.proofs.lemmas.Bool.{false≢true}
 use mathlib.Core.List.{head-eq_of_cons-eq, tail-eq_of_cons-eq}
+use Rattle.std.proofs.lemmas.Option.{none-some}
 use Rattle.std.proofs.lemmas.List.{drop_all, drop_at, length-append, length-drop}
 use Rattle.signature.specs.declared.codes.Basic.{Basic}
 use Rattle.signature.specs.declared.codes.Head.{Head}
 use Rattle.signature.specs.declared.codes.Head.TheVariants as head
-use Rattle.signature.specs.Codes.{code, head_code}
+use Rattle.signature.specs.declared.codes.NoCode.{NoCode}
+use Rattle.signature.specs.Codes.{code, head_code, IsBasicOf, IsHeadOf}
 use Rattle.signature.specs.Trees.{Tree, basic, variant, array, struct, Element, single, entry, Trees, none, more, spell, spell_element, spell_all, arrays, element_arrays, all_arrays, structs, element_structs, all_structs, head_of_type, Signature, Single, EndsAt}
 use Rattle.signature.specs.Phrases.{TypeAt, ElementAt, EntryAt, MembersAt, Types}
 use Rattle.signature.proofs.Heads.{head_once, apart}
@@ -22,29 +27,40 @@ shorter s left a d h = omega (arith, longer h.type left, ap length h.spells)
 pub one_rest : (s left other : List ℕ) (a d : ℕ) → TypeAt s a d left → TypeAt s a d other → left ≡ other
 one_rest s left other a d h k = (once h.type k.type left other (h.spells ∙ sym k.spells)).1
 
--- bytes that begin with a code, and the head of that code
-module _ (s rest : List ℕ) (c : ℕ) (h : Head) (a d : ℕ) (front : s ≡ c ∷ rest) (coded : head_code h ≡ c) where
+-- bytes that begin with the code of a head
+pub record Begins (s rest : List ℕ) (h : Head) : Type 0 where
+  pub spells : head_code h ∷ rest ≡ s
+
+-- what stands at the front, by what the conversion of the first byte tells
+pub begun : (s rest : List ℕ) (c : ℕ) (r : Result Head NoCode) (h : Head) → s ≡ c ∷ rest → Some h ≡ result_ok r → IsHeadOf c r → Begins s rest h
+begun s rest c (Ok k) h front e told =
+    let same : h ≡ k = cc in
+    record { spells = ap (λ (y : Head). head_code y ∷ rest) same ∙ ap (λ (y : ℕ). y ∷ rest) told ∙ sym front }
+begun s rest c (Err x) h front e told = absurd (none-some h (sym e))
+
+-- no type where no head has the code
+pub no_head : (s rest : List ℕ) (c a d : ℕ) (r : Result Head NoCode) → s ≡ c ∷ rest → None ≡ result_ok r → IsHeadOf c r → (left : List ℕ) → TypeAt s a d left → ⊥
+no_head s rest c a d (Ok k) front e told left t = none-some k e
+no_head s rest c a d (Err x) front e told left t = told (head_of_type t.type) (begins t.type left rest c (t.spells ∙ front))
+
+-- the type of a key, by what the conversion of its byte tells
+pub keyed : (c : ℕ) (r : Result Basic NoCode) (b : Basic) → Some b ≡ result_ok r → IsBasicOf c r → code b ≡ c
+keyed c (Ok k) b e told = let same : b ≡ k = cc in ap code same ∙ told
+keyed c (Err x) b e told = absurd (none-some b (sym e))
+
+module _ {s rest : List ℕ} {h : Head} (front : Begins s rest h) (a d : ℕ) where
   pub head_there : (left : List ℕ) (t : TypeAt s a d left) → head_of_type t.type ≡ h
-  head_there left t = head_once (head_of_type t.type) h (begins t.type left rest c (t.spells ∙ front) ∙ sym coded)
+  head_there left t = head_once (head_of_type t.type) h (begins t.type left rest (head_code h) (t.spells ∙ sym front.spells))
 
   rest_there : (xs : List ℕ) → rest ≡ xs → head_code h ∷ xs ≡ s
-  rest_there xs e = ap (λ (y : ℕ). y ∷ xs) coded ∙ ap (λ (ys : List ℕ). c ∷ ys) (sym e) ∙ sym front
+  rest_there xs e = ap (λ (ys : List ℕ). head_code h ∷ ys) (sym e) ∙ front.spells
 
-  pub basic_there : (b : Basic) → h ≡ head.Basic b → TypeAt s a d rest
-  basic_there b e = record {
-    type = basic b;
-    spells = ap (λ (k : Head). head_code k ∷ rest) (sym e) ∙ rest_there rest refl;
-    few_arrays = omega arith;
-    few_structs = omega arith;
-  }
+  leaf_by : (t : Tree) → arrays t ≡ 0 → structs t ≡ 0 → spell t rest ≡ s → TypeAt s a d rest
+  leaf_by t fa fd e = record { type = t; spells = e; few_arrays = omega arith; few_structs = omega arith }
 
-  pub variant_there : h ≡ head.Variant → TypeAt s a d rest
-  variant_there e = record {
-    type = variant;
-    spells = ap (λ (k : Head). head_code k ∷ rest) (sym e) ∙ rest_there rest refl;
-    few_arrays = omega arith;
-    few_structs = omega arith;
-  }
+  pub leaf_there : ((b : Basic) × (h ≡ head.Basic b)) ⊎ (h ≡ head.Variant) → TypeAt s a d rest
+  leaf_there (inl e) = leaf_by (basic e.0) refl refl (ap (λ (k : Head). head_code k ∷ rest) (sym e.1) ∙ front.spells)
+  leaf_there (inr e) = leaf_by variant refl refl (ap (λ (k : Head). head_code k ∷ rest) (sym e) ∙ front.spells)
 
   entry_by : (t : Tree) → head_of_type t ≡ head.Entry → ⊥
   entry_by (basic b) k = apart k (omega arith)
@@ -56,14 +72,14 @@ module _ (s rest : List ℕ) (c : ℕ) (h : Head) (a d : ℕ) (front : s ≡ c �
   no_entry_there e left t = entry_by t.type (head_there left t ∙ e)
 
   -- an array
-  array_by : (t : Tree) (left : List ℕ) → head_of_type t ≡ head.Array → spell t left ≡ c ∷ rest → arrays t ≤ a → structs t ≤ d → (m : ℕ) → a ≤ m + 1 → (1 ≤ a) × ElementAt rest m d left
+  array_by : (t : Tree) (left : List ℕ) → head_of_type t ≡ head.Array → spell t left ≡ head_code h ∷ rest → arrays t ≤ a → structs t ≤ d → (m : ℕ) → a ≤ m + 1 → (1 ≤ a) × ElementAt rest m d left
   array_by (basic b) left k e fa fd m l = apart k (omega arith)
   array_by variant left k e fa fd m l = apart k (omega arith)
   array_by (array f) left k e fa fd m l = (omega arith, record { element = f; spells = tail-eq_of_cons-eq e; few_arrays = omega arith; few_structs = fd })
   array_by (struct t ts) left k e fa fd m l = apart k (omega arith)
 
   pub array_there : h ≡ head.Array → (left : List ℕ) → TypeAt s a d left → (m : ℕ) → a ≤ m + 1 → (1 ≤ a) × ElementAt rest m d left
-  array_there e left t m l = array_by t.type left (head_there left t ∙ e) (t.spells ∙ front) t.few_arrays t.few_structs m l
+  array_there e left t m l = array_by t.type left (head_there left t ∙ e) (t.spells ∙ sym front.spells) t.few_arrays t.few_structs m l
 
   pub array_of : h ≡ head.Array → (left : List ℕ) (m : ℕ) → m + 1 ≡ a → ElementAt rest m d left → TypeAt s a d left
   array_of e left m l t = record {
@@ -74,7 +90,7 @@ module _ (s rest : List ℕ) (c : ℕ) (h : Head) (a d : ℕ) (front : s ≡ c �
   }
 
   -- a struct
-  struct_by : (t : Tree) (left : List ℕ) → head_of_type t ≡ head.Struct → spell t left ≡ c ∷ rest → arrays t ≤ a → structs t ≤ d → (m : ℕ) → d ≤ m + 1 → (1 ≤ d) × MembersAt rest a m left
+  struct_by : (t : Tree) (left : List ℕ) → head_of_type t ≡ head.Struct → spell t left ≡ head_code h ∷ rest → arrays t ≤ a → structs t ≤ d → (m : ℕ) → d ≤ m + 1 → (1 ≤ d) × MembersAt rest a m left
   struct_by (basic b) left k e fa fd m l = apart k (omega arith)
   struct_by variant left k e fa fd m l = apart k (omega arith)
   struct_by (array f) left k e fa fd m l = apart k (omega arith)
@@ -82,7 +98,7 @@ module _ (s rest : List ℕ) (c : ℕ) (h : Head) (a d : ℕ) (front : s ≡ c �
       (omega arith, record { type = t; types = ts; spells = tail-eq_of_cons-eq e; few_arrays = omega arith; few_structs = omega arith })
 
   pub struct_there : h ≡ head.Struct → (left : List ℕ) → TypeAt s a d left → (m : ℕ) → d ≤ m + 1 → (1 ≤ d) × MembersAt rest a m left
-  struct_there e left t m l = struct_by t.type left (head_there left t ∙ e) (t.spells ∙ front) t.few_arrays t.few_structs m l
+  struct_there e left t m l = struct_by t.type left (head_there left t ∙ e) (t.spells ∙ sym front.spells) t.few_arrays t.few_structs m l
 
   pub struct_of : h ≡ head.Struct → (left : List ℕ) (m : ℕ) → m + 1 ≡ d → MembersAt rest a m left → TypeAt s a d left
   struct_of e left m l t = record {
@@ -91,10 +107,6 @@ module _ (s rest : List ℕ) (c : ℕ) (h : Head) (a d : ℕ) (front : s ≡ c �
     few_arrays = omega (arith, t.few_arrays.0, t.few_arrays.1);
     few_structs = omega (arith, t.few_structs.0, t.few_structs.1);
   }
-
--- no type where no head has the code
-pub no_head : (s rest : List ℕ) (c a d : ℕ) → s ≡ c ∷ rest → ((h : Head) → head_code h ≡ c → ⊥) → (left : List ℕ) → TypeAt s a d left → ⊥
-no_head s rest c a d front ne left t = ne (head_of_type t.type) (begins t.type left rest c (t.spells ∙ front))
 
 -- what an array is of
 module _ (s : List ℕ) (a d : ℕ) where
@@ -275,3 +287,13 @@ pub empty_ends : (s : List ℕ) → length s ≡ 0 → (h : Signature s) × Ends
 unfolding signature_of no_types
 empty_ends [] e = (signature_of [] (omega arith) (no_types [] e), refl)
 empty_ends (x ∷ xs) e = absurd (omega arith)
+
+-- what a test of the bytes behind the first type tells of all
+pub first_by : (s rest : List ℕ) (b : Bool) (o : Option ℕ) → length s ≤ 255 → TypeAt s 32 32 rest → Decides b (Types rest) → o ≡ then_some b (length s - length rest) → MatchOption o (Signature s → ⊥) (λ n. (h : Signature s) × EndsAt h.types s n)
+first_by s rest true o l h d e = rw e (first_ends s rest l h (d.0 refl))
+first_by s rest false o l h d e = rw e (λ k. false≢true (d.1 (types_after s rest h (types_of s k))))
+
+-- a signature is of one type exactly where the first type is all of it
+pub single_by : (s : List ℕ) (o : Option ℕ) (r : Bool) → MatchOption o (Signature s → ⊥) (λ n. (h : Signature s) × EndsAt h.types s n) → MatchOption o (r ≡ false) (λ n. Decides r ((0 < n) × (n ≡ length s))) → Decides r (Single s)
+single_by s None r h e = (λ t. absurd (false≢true (sym e ∙ t)), λ k. absurd (h (single_signature s k)))
+single_by s (Some n) r h d = (λ t. let p = d.0 t in one_type s n h.0 h.1 p.0 p.1, λ k. d.1 (one_end s n h.0 h.1 k))

@@ -7,7 +7,7 @@ use Rattle.signature.specs.Phrases.{TypeAt}
 use Rattle.signature.specs.Examples.{nested, Examples}
 use Rattle.signature.proofs.Heads.{head_once, apart}
 use Rattle.signature.proofs.Spellings.{no_close, element_longer, once_all}
-use Rattle.signature.proofs.Fronts.{array_there, struct_there, dict_there, value_there, first_member, types_front, types_of}
+use Rattle.signature.proofs.Fronts.{Begins, array_there, struct_there, dict_there, value_there, first_member, types_front, types_of}
 
 front : (s : List ℕ) → 1 ≤ length s → Signature s → (left : List ℕ) × TypeAt s 32 32 left
 front s l h = types_front s l (types_of s h)
@@ -17,7 +17,8 @@ key_not_basic h =
     let s = codes "a{vs}" in
     let inner = codes "vs}" in
     let t = front s (omega arith) h in
-    let e = (array_there s (123 ∷ inner) 97 head.Array 32 32 refl refl refl t.0 t.1 31 (omega arith)).1 in
+    let begins : Begins s (123 ∷ inner) head.Array = record { spells = refl } in
+    let e = (array_there begins 32 32 refl t.0 t.1 31 (omega arith)).1 in
     let d = (dict_there (123 ∷ inner) 31 32 inner t.0 refl e 31 (omega arith)).1 in
     let k = (value_there inner 31 31 118 (codes "s}") t.0 refl d).0 in
     apart (head_once (head.Basic d.key) head.Variant k) (omega arith)
@@ -25,14 +26,16 @@ key_not_basic h =
 empty_struct : Signature (codes "()") → ⊥
 empty_struct h =
     let t = front (codes "()") (omega arith) h in
-    let m = (struct_there (codes "()") (codes ")") 40 head.Struct 32 32 refl refl refl t.0 t.1 31 (omega arith)).1 in
+    let begins : Begins (codes "()") (codes ")") head.Struct = record { spells = refl } in
+    let m = (struct_there begins 32 32 refl t.0 t.1 31 (omega arith)).1 in
     let f = first_member (codes ")") 32 31 t.0 m in
     no_close f.type _ [] f.spells
 
 array_of_nothing : Signature (codes "a") → ⊥
 array_of_nothing h =
     let t = front (codes "a") (omega arith) h in
-    let e = (array_there (codes "a") [] 97 head.Array 32 32 refl refl refl t.0 t.1 31 (omega arith)).1 in
+    let begins : Begins (codes "a") [] head.Array = record { spells = refl } in
+    let e = (array_there begins 32 32 refl t.0 t.1 31 (omega arith)).1 in
     omega (arith, element_longer e.element t.0, ap length e.spells)
 
 -- arrays of arrays, of bytes at last

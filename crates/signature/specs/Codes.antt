@@ -1,9 +1,10 @@
 -- The code of each type, and its alignment.
-use Rattle.std.specs.Prelude.{ℕ}
+use Rattle.std.specs.Prelude.{◌≡◌, ◌≢◌, ℕ, Result, MatchResult}
 use Rattle.signature.specs.declared.codes.Basic.{Basic}
 use Rattle.signature.specs.declared.codes.Basic.TheVariants.{Byte, Boolean, Int16, Uint16, Int32, Uint32, Int64, Uint64, Double, Text, Path, Signature}
 use Rattle.signature.specs.declared.codes.Alignment.{Alignment}
 use Rattle.signature.specs.declared.codes.Alignment.TheVariants.{One, Two, Four, Eight}
+use Rattle.signature.specs.declared.codes.NoCode.{NoCode}
 use Rattle.signature.specs.declared.codes.Head.{Head}
 use Rattle.signature.specs.declared.codes.Head.TheVariants as head
 
@@ -29,6 +30,13 @@ head_code head.Variant = 118
 head_code head.Array = 97
 head_code head.Struct = 40
 head_code head.Entry = 123
+
+-- the type of this code, or that no type has it
+abbrev pub IsBasicOf : ℕ → Result Basic NoCode → Type 0
+IsBasicOf c r = MatchResult r (λ b. code b ≡ c) (λ _. (b : Basic) → code b ≢ c)
+
+abbrev pub IsHeadOf : ℕ → Result Head NoCode → Type 0
+IsHeadOf c r = MatchResult r (λ h. head_code h ≡ c) (λ _. (h : Head) → head_code h ≢ c)
 
 -- y g 1; n q 2; b i u s o 4; x t d 8
 abbrev pub basic_align : Basic → Alignment

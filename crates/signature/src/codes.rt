@@ -1,22 +1,22 @@
 // The codes of types.
-ghost use Rattle.std.specs.Prelude.{◌≡◌, ℕ, ◌<◌, ◌≤◌, List, ◌∷◌, MatchOption, ◌≢◌};
-ghost use Rattle.signature.specs.Codes.{code, head_code, align, basic_align, step};
+ghost use Rattle.std.specs.Prelude.{◌≡◌, ◌<◌, ◌≤◌};
+ghost use Rattle.signature.specs.Codes.{code, align, basic_align, step, IsBasicOf, IsHeadOf};
 
-// A type whose values hold no others.
+// A type whose values hold no others, with its code.
 #[derive(Clone, Copy, PartialEq, Eq, Debug)]
 pub enum Basic {
-    Byte,
-    Boolean,
-    Int16,
-    Uint16,
-    Int32,
-    Uint32,
-    Int64,
-    Uint64,
-    Double,
-    Text,
-    Path,
-    Signature,
+    Byte = b'y' as isize,
+    Boolean = b'b' as isize,
+    Int16 = b'n' as isize,
+    Uint16 = b'q' as isize,
+    Int32 = b'i' as isize,
+    Uint32 = b'u' as isize,
+    Int64 = b'x' as isize,
+    Uint64 = b't' as isize,
+    Double = b'd' as isize,
+    Text = b's' as isize,
+    Path = b'o' as isize,
+    Signature = b'g' as isize,
 }
 
 // What a type or a dict entry begins with.
@@ -32,83 +32,74 @@ pub enum Head {
 // What the place of a value is a multiple of.
 #[derive(Clone, Copy, PartialEq, Eq, Debug)]
 pub enum Alignment {
-    One,
-    Two,
-    Four,
-    Eight,
+    One = 1,
+    Two = 2,
+    Four = 4,
+    Eight = 8,
 }
+
+// A byte that is not the code that was asked for.
+#[derive(Clone, Copy, PartialEq, Eq, Debug)]
+pub struct NoCode;
 
 impl Alignment {
     pub fn bytes(self) -> usize
         ensures value { result ≡ step self }
         ensures bound { (0 < result) × (result ≤ 8) }
     {
-        match self {
-            Alignment::One => 1,
-            Alignment::Two => 2,
-            Alignment::Four => 4,
-            Alignment::Eight => 8,
+        self as usize
+    }
+}
+
+impl TryFrom<u8> for Basic {
+    type Error = NoCode;
+
+    ghost try_from_gives = { IsBasicOf };
+
+    fn try_from(code: u8) -> Result<Basic, NoCode> {
+        match code {
+            b'y' => Ok(Basic::Byte),
+            b'b' => Ok(Basic::Boolean),
+            b'n' => Ok(Basic::Int16),
+            b'q' => Ok(Basic::Uint16),
+            b'i' => Ok(Basic::Int32),
+            b'u' => Ok(Basic::Uint32),
+            b'x' => Ok(Basic::Int64),
+            b't' => Ok(Basic::Uint64),
+            b'd' => Ok(Basic::Double),
+            b's' => Ok(Basic::Text),
+            b'o' => Ok(Basic::Path),
+            b'g' => Ok(Basic::Signature),
+            _ => Err(NoCode),
         }
     }
 }
 
-// The basic type of a code.
-pub fn basic_of(c: u8) -> Option<Basic>
-    ensures { MatchOption result ((b : Basic) → code b ≢ c) (λ b. code b ≡ c) }
-{
-    match c {
-        b'y' => Some(Basic::Byte),
-        b'b' => Some(Basic::Boolean),
-        b'n' => Some(Basic::Int16),
-        b'q' => Some(Basic::Uint16),
-        b'i' => Some(Basic::Int32),
-        b'u' => Some(Basic::Uint32),
-        b'x' => Some(Basic::Int64),
-        b't' => Some(Basic::Uint64),
-        b'd' => Some(Basic::Double),
-        b's' => Some(Basic::Text),
-        b'o' => Some(Basic::Path),
-        b'g' => Some(Basic::Signature),
-        _ => None,
+impl TryFrom<u8> for Head {
+    type Error = NoCode;
+
+    ghost try_from_gives = { IsHeadOf };
+
+    fn try_from(code: u8) -> Result<Head, NoCode> {
+        match code {
+            b'v' => Ok(Head::Variant),
+            b'a' => Ok(Head::Array),
+            b'(' => Ok(Head::Struct),
+            b'{' => Ok(Head::Entry),
+            _ => Ok(Head::Basic(Basic::try_from(code)?)),
+        }
     }
 }
 
-// What begins with a code.
-pub fn head_of(c: u8) -> Option<Head>
-    ensures { MatchOption result ((h : Head) → head_code h ≢ c) (λ h. head_code h ≡ c) }
-{
-    match c {
-        b'v' => Some(Head::Variant),
-        b'a' => Some(Head::Array),
-        b'(' => Some(Head::Struct),
-        b'{' => Some(Head::Entry),
-        _ => match basic_of(c) {
-            Some(basic) => Some(Head::Basic(basic)),
-            None => None,
-        },
+impl From<Basic> for u8 {
+    ghost from_gives = { λ kind r. r ≡ code kind };
+
+    fn from(kind: Basic) -> u8 {
+        kind as u8
     }
 }
 
 impl Basic {
-    pub fn code(self) -> u8
-        ensures { result ≡ code self }
-    {
-        match self {
-            Basic::Byte => b'y',
-            Basic::Boolean => b'b',
-            Basic::Int16 => b'n',
-            Basic::Uint16 => b'q',
-            Basic::Int32 => b'i',
-            Basic::Uint32 => b'u',
-            Basic::Int64 => b'x',
-            Basic::Uint64 => b't',
-            Basic::Double => b'd',
-            Basic::Text => b's',
-            Basic::Path => b'o',
-            Basic::Signature => b'g',
-        }
-    }
-
     pub fn alignment(self) -> Alignment
         ensures { result ≡ basic_align self }
     {

@@ -1,10 +1,10 @@
 // Which bytes are a signature, and where a type in them ends.
-ghost use Rattle.std.specs.Prelude.{◌≡◌, ℕ, ◌+◌, ◌-◌, ◌<◌, true, false, List, [], ◌∷◌, length, Decides, MatchOption, ◌≢◌};
+ghost use Rattle.std.specs.Prelude.{◌≡◌, ℕ, true, false, List, [], ◌∷◌, Decides, MatchOption};
 ghost use Rattle.signature.specs.Trees.{Trees, Signature as Signed, Single, EndsAt, ElementEnds, SpelledOnce};
 ghost use Rattle.signature.specs.Phrases.{TypeAt, ElementAt, EntryAt, MembersAt, Types};
 ghost use Rattle.signature.specs.Examples.{Examples};
 
-use crate::codes::{Head, basic_of, head_of};
+use crate::codes::{Basic, Head};
 
 // The longest signature.
 const LONGEST: usize = 255;
@@ -12,39 +12,16 @@ const LONGEST: usize = 255;
 // The most arrays around one another, and the most structs and dict entries.
 const DEEPEST: usize = 32;
 
-// What follows a code, if `s` begins with it.
-fn after(s: &[u8], code: u8) -> Option<&[u8]>
-    ensures { MatchOption result ((xs : List ℕ) → s.now ≢ code ∷ xs) (λ rest. s.now ≡ code ∷ rest.now) }
-{
-    let (first, rest) = s.split_first()?;
-    if *first == code { Some(rest) } else { None }
-}
-
-// How much deeper it may go inside, if it may at all.
-fn deeper(room: usize) -> Option<usize>
-    ensures { MatchOption result (room ≡ 0) (λ left. left + 1 ≡ room) }
-{
-    room.checked_sub(1)
-}
-
-// Where `rest`, the end of `bytes`, begins.
-fn begin_of(rest: &[u8], bytes: &[u8]) -> usize
-    ensures { result ≡ length bytes.now - length rest.now }
-{
-    bytes.len().saturating_sub(rest.len())
-}
-
 // What follows the complete type at the front, if there is one with at most so many arrays and structs.
 #[cycle(complete_element_entry_members)]
 fn complete(s: &[u8], arrays: usize, structs: usize) -> Option<&[u8]>
     ensures { MatchOption result ((left : List ℕ) → TypeAt s.now arrays structs left → ⊥) (λ left. TypeAt s.now arrays structs left.now) }
 {
     let (first, rest) = s.split_first()?;
-    match head_of(*first)? {
-        Head::Basic(_) => Some(rest),
-        Head::Variant => Some(rest),
-        Head::Array => element(rest, deeper(arrays)?, structs),
-        Head::Struct => members(rest, arrays, deeper(structs)?),
+    match Head::try_from(*first).ok()? {
+        Head::Basic(_) | Head::Variant => Some(rest),
+        Head::Array => element(rest, arrays.checked_sub(1)?, structs),
+        Head::Struct => members(rest, arrays, structs.checked_sub(1)?),
         Head::Entry => None,
     }
 }
@@ -54,8 +31,8 @@ fn complete(s: &[u8], arrays: usize, structs: usize) -> Option<&[u8]>
 fn element(s: &[u8], arrays: usize, structs: usize) -> Option<&[u8]>
     ensures { MatchOption result ((left : List ℕ) → ElementAt s.now arrays structs left → ⊥) (λ left. ElementAt s.now arrays structs left.now) }
 {
-    match after(s, b'{') {
-        Some(inner) => entry(inner, arrays, deeper(structs)?),
+    match s.strip_prefix(b"{") {
+        Some(inner) => entry(inner, arrays, structs.checked_sub(1)?),
         None => complete(s, arrays, structs),
     }
 }
@@ -66,9 +43,8 @@ fn entry(s: &[u8], arrays: usize, structs: usize) -> Option<&[u8]>
     ensures { MatchOption result ((left : List ℕ) → EntryAt s.now arrays structs left → ⊥) (λ left. EntryAt s.now arrays structs left.now) }
 {
     let (key, value) = s.split_first()?;
-    let _ = basic_of(*key)?;
-    let rest = complete(value, arrays, structs)?;
-    after(rest, b'}')
+    let _ = Basic::try_from(*key).ok()?;
+    complete(value, arrays, structs)?.strip_prefix(b"}")
 }
 
 // The same of the members of a struct, after its `(`.
@@ -77,7 +53,7 @@ fn members(s: &[u8], arrays: usize, structs: usize) -> Option<&[u8]>
     ensures { MatchOption result ((left : List ℕ) → MembersAt s.now arrays structs left → ⊥) (λ left. MembersAt s.now arrays structs left.now) }
 {
     let rest = complete(s, arrays, structs)?;
-    match after(rest, b')') {
+    match rest.strip_prefix(b")") {
         Some(left) => Some(left),
         None => members(rest, arrays, structs),
     }
@@ -97,7 +73,8 @@ fn are_types(s: &[u8]) -> bool
     true
 }
 
-// Where the first complete type of a signature ends, 0 where it has none; None where the bytes are no signature.
+// Where the first complete type of a signature ends; None where the bytes are no signature.
+// It is 0 where there is no type: what stands before the other types is then empty, and an Option in it would say no more.
 pub fn first_type(bytes: &[u8]) -> Option<usize>
     ensures { MatchOption result (Signed bytes.now → ⊥) (λ n. (s : Signed bytes.now) × EndsAt s.types bytes.now n) }
 {
@@ -108,11 +85,7 @@ pub fn first_type(bytes: &[u8]) -> Option<usize>
         return Some(0);
     }
     let rest = complete(bytes, DEEPEST, DEEPEST)?;
-    if are_types(rest) {
-        Some(begin_of(rest, bytes))
-    } else {
-        None
-    }
+    are_types(rest).then_some(bytes.len() - rest.len())
 }
 
 // Whether bytes are a signature. A signature spells one list of types.
@@ -123,21 +96,11 @@ pub fn is_signature(bytes: &[u8]) -> bool
     first_type(bytes).is_some()
 }
 
-// Whether an end behind something is that of the whole.
-fn is_whole(end: usize, len: usize) -> bool
-    ensures { Decides result ((0 < end) × (end ≡ len)) }
-{
-    end > 0 && end == len
-}
-
 // Whether bytes are the signature of exactly one complete type.
 pub fn is_single(bytes: &[u8]) -> bool
     ensures { Decides result (Single bytes.now) }
 {
-    match first_type(bytes) {
-        Some(end) => is_whole(end, bytes.len()),
-        None => false,
-    }
+    first_type(bytes).is_some_and(|end| end > 0 && end == bytes.len())
 }
 
 // Where the element at the front ends, a complete type or a dict entry, however deep.
@@ -145,7 +108,7 @@ pub fn element_end(bytes: &[u8]) -> Option<usize>
     ensures { MatchOption result ((n : ℕ) → ElementEnds bytes.now n → ⊥) (λ n. ElementEnds bytes.now n) }
 {
     let rest = element(bytes, usize::MAX, usize::MAX)?;
-    Some(begin_of(rest, bytes))
+    Some(bytes.len() - rest.len())
 }
 
 // How the examples are judged: `a{sv}`, `a{vs}`, `()`, `a`, and 32 and 33 times `a` before `y`.

@@ -4,5 +4,5 @@
 pub mod codes;
 mod grammar;
 
-pub use codes::{Alignment, Basic, Head, basic_of, head_of};
+pub use codes::{Alignment, Basic, Head, NoCode};
 pub use grammar::{element_end, first_type, is_signature, is_single, judged_examples};

@@ -1,6 +1,7 @@
 -- Elements one after the other, a separator before each.
-use Rattle.std.proofs.Common.{◌≡◌, ℕ, ◌<◌, ◌≤◌, Bool, List, [], ◌∷◌, ◌++◌, length, Some, None, Decides, Option, sym, ap, ◌∙◌, arith, Bor}
+use Rattle.std.proofs.Common.{◌≡◌, ℕ, ◌<◌, ◌≤◌, Bool, false, List, [], ◌∷◌, ◌++◌, length, Some, None, Decides, Option, sym, ap, ◌∙◌, arith, Bor, MatchOption, ◌≢◌}
 use Rattle.std.specs.List.{AllByRecursion}
+use Rattle.std.proofs.lemmas.Bool.{false≢true}
 use Rattle.std.proofs.lemmas.Bool.Decides.{Decides-like}
 use Rattle.std.proofs.lemmas.List.{length-append, nil_from_length}
 use Rattle.text.specs.Grammar.{Holds, Element, led, joined, Led, Dotted}
@@ -61,12 +62,8 @@ module _ (separator : ℕ) (kind : Kind) where
   pub no_led_empty : (bytes : List ℕ) → length bytes ≡ 0 → Led separator kind bytes → ⊥
   no_led_empty bytes n l = let e = ap length (parts bytes l).spells in omega arith
 
-  pub no_led_other : (bytes more : List ℕ) (first : ℕ) → bytes ≡ first ∷ more → (first ≡ separator → ⊥) → Led separator kind bytes → ⊥
-  no_led_other bytes more first e ne l =
-      let p = parts bytes l in
-      let whole : separator ∷ (p.element ++ led separator p.others) ≡ first ∷ more = p.spells ∙ e in
-      let head : first ≡ separator = cc in
-      ne head
+  pub no_led : (bytes : List ℕ) → ((more : List ℕ) → bytes ≢ separator ∷ more) → Led separator kind bytes → ⊥
+  no_led bytes ne l = let p = parts bytes l in ne (p.element ++ led separator p.others) (sym p.spells)
 
   pub no_led_element : (bytes more : List ℕ) → bytes ≡ separator ∷ more → ((element rest : List ℕ) → Element kind element → element ++ rest ≡ more → ⊥) → Led separator kind bytes → ⊥
   no_led_element bytes more e none l =
@@ -100,5 +97,13 @@ module _ (kind : Kind) (bytes rest : List ℕ) (f : Follows kind bytes rest) whe
   pub others : Dotted kind bytes → Led 46 kind rest
   others d = others_of d.elements d.some d.valid d.spells
 
-  pub dotted_as_led : (r : Bool) → Decides r (Led 46 kind rest) → Decides r (Dotted kind bytes)
-  dotted_as_led r = Decides-like r dotted others
+none_dotted : (kind : Kind) (bytes : List ℕ) (es : List (List ℕ)) → After kind bytes None → 2 ≤ length es → AllByRecursion (Element kind) es → joined 46 es ≡ bytes → ⊥
+none_dotted kind bytes [] a some all e = omega arith
+none_dotted kind bytes (x ∷ xs) a some all e = a x (led 46 xs) all.0 e
+
+-- what a test of the rest for elements, a `.` before each, tells
+pub dotted_by : (kind : Kind) (bytes : List ℕ) (o : Option (Bor (List ℕ))) (r : Bool) {R : Bor (List ℕ) → Type 0} → ((rest : Bor (List ℕ)) → R rest → Decides r (Led 46 kind rest.now)) → After kind bytes o → MatchOption o (r ≡ false) R → Decides r (Dotted kind bytes)
+dotted_by kind bytes None r f a e =
+    (λ t. absurd (false≢true (sym e ∙ t)), λ d. absurd (none_dotted kind bytes d.elements a d.some d.valid d.spells))
+dotted_by kind bytes (Some rest) r f a d =
+    Decides-like r (dotted kind bytes rest.now a) (others kind bytes rest.now a) (f rest d)

@@ -1,11 +1,13 @@
 -- Bytes as an element and what follows it: there is one way to part them.
-use Rattle.std.proofs.Common.{◌≡◌, ℕ, zero, suc, ◌<◌, ◌≤◌, eqb, List, [], ◌∷◌, ◌++◌, length, get_or, take, drop, Decides, sym, refl, ap, ◌∙◌, subst, ap₂, append-nil, arith}
+use Rattle.std.proofs.Common.{◌≡◌, ℕ, zero, suc, ◌<◌, ◌≤◌, Bool, false, List, [], ◌∷◌, ◌++◌, length, get_or, take, drop, Decides, None, Some, Option, MatchOption, sym, refl, ap, ◌∙◌, subst, ap₂, append-nil, arith}
 use Rattle.std.specs.List.{AllByRecursion}
 use Rattle.std.proofs.ByRecursion.{All-from_get_or}
-use Rattle.std.proofs.lemmas.Bool.{eq-eqb, eqb-true}
+use Rattle.std.proofs.lemmas.Bool.{false≢true}
+use Rattle.std.proofs.lemmas.Bool.Decides.{Decides-like}
+use Rattle.std.specs.Borrow.{Bor}
 use Rattle.std.proofs.lemmas.List.{get_or-take, length-take-le, nil_from_length, take-append-drop}
 use Rattle.text.specs.Grammar.{Holds, Begins, Element}
-use Rattle.text.specs.Scans.{Ended, Follows}
+use Rattle.text.specs.Scans.{Ended, Follows, After}
 use Rattle.text.specs.declared.element.Kind.{Kind}
 
 module _ (kind : Kind) where
@@ -51,5 +53,7 @@ module _ (kind : Kind) where
       let both = one_way f.element bytes rest [] (all_held f.element f.valid) (all_held bytes h) f.ended tt (f.spells ∙ sym (append-nil bytes)) in
       ap length both.1
 
-  pub decides_element : (bytes rest : List ℕ) → Follows kind bytes rest → Decides (eqb (length rest) 0) (Element kind bytes)
-  decides_element bytes rest f = (λ e. whole bytes rest f (eqb-true _ 0 e), λ h. eq-eqb _ 0 (none_left bytes rest f h))
+  -- what a test of the rest for emptiness tells
+  pub element_by : (bytes : List ℕ) (o : Option (Bor (List ℕ))) (r : Bool) {R : Bor (List ℕ) → Type 0} → ((rest : Bor (List ℕ)) → R rest → Decides r (length rest.now ≡ 0)) → After kind bytes o → MatchOption o (r ≡ false) R → Decides r (Element kind bytes)
+  element_by bytes None r f a e = (λ t. absurd (false≢true (sym e ∙ t)), λ h. absurd (a bytes [] h (append-nil bytes)))
+  element_by bytes (Some rest) r f a d = Decides-like r (whole bytes rest.now a) (none_left bytes rest.now a) (f rest d)

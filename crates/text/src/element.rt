@@ -45,12 +45,10 @@ fn run(bytes: &[u8], kind: Kind) -> usize
     ensures before { (k : ℕ) → k < result → Holds kind (slice_index bytes.now k) }
     ensures ended { result < length bytes.now → Holds kind (slice_index bytes.now result) → ⊥ }
 {
-    for (i, b) in bytes.iter().enumerate() {
-        if !kind.may_hold(*b) {
-            return i;
-        }
-    }
-    bytes.len()
+    bytes
+        .iter()
+        .position(|b| !kind.may_hold(*b))
+        .unwrap_or(bytes.len())
 }
 
 // What follows the element at the front of the bytes; None where there is no element.
@@ -69,21 +67,14 @@ fn after_led(bytes: &[u8], separator: u8, kind: Kind) -> Option<&[u8]>
     requires { Holds kind separator → ⊥ }
     ensures { AfterLed separator kind bytes.now result }
 {
-    let (first, rest) = bytes.split_first()?;
-    if *first != separator {
-        return None;
-    }
-    after_element(rest, kind)
+    after_element(bytes.strip_prefix(&[separator])?, kind)
 }
 
 // Whether the bytes are one element.
 pub(crate) fn is_element(bytes: &[u8], kind: Kind) -> bool
     ensures { Decides result (Element kind bytes.now) }
 {
-    match after_element(bytes, kind) {
-        Some(rest) => rest.is_empty(),
-        None => false,
-    }
+    after_element(bytes, kind).is_some_and(|rest| rest.is_empty())
 }
 
 // Whether the bytes are one or more elements, the separator before each.
@@ -105,8 +96,5 @@ pub(crate) fn is_led(bytes: &[u8], separator: u8, kind: Kind) -> bool
 pub(crate) fn is_dotted(bytes: &[u8], kind: Kind) -> bool
     ensures { Decides result (Dotted kind bytes.now) }
 {
-    match after_element(bytes, kind) {
-        Some(rest) => is_led(rest, b'.', kind),
-        None => false,
-    }
+    after_element(bytes, kind).is_some_and(|rest| is_led(rest, b'.', kind))
 }

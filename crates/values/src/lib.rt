@@ -28,16 +28,10 @@ pub fn values<O: ByteOrder>(bytes: &[u8], codes: Span, at: usize, end: usize) ->
     ensures once { Decided }
 {
     if at > end || end > bytes.len() {
-        return Err(Flaw {
-            cause: Cause::PastEnd,
-            byte: at,
-        });
+        return Err(Cause::PastEnd.at(at));
     }
     if !spells(bytes, codes) {
-        return Err(Flaw {
-            cause: Cause::Signature,
-            byte: codes.from,
-        });
+        return Err(Cause::Signature.at(codes.from));
     }
     walked::<O>(bytes, codes, at, end)
 }

@@ -12,7 +12,7 @@ use area::front;
 use arrayvec::ArrayVec;
 use items::{Flaw, Span, array, basic, structure, type_code};
 use order::ByteOrder;
-use signature::{Alignment, Basic, Head, element_end, head_of};
+use signature::{Alignment, Basic, Head, element_end};
 
 // An array, struct, dict entry or variant around the place where a walk stands.
 #[derive(Clone, Copy, Default)]
@@ -52,7 +52,7 @@ struct Walk<'a> {
 fn alignment_of(code: u8) -> Alignment
     ensures { (h : HeadOf) → head_code h ≡ code → result ≡ align h }
 {
-    head_of(code).map_or(Alignment::One, |head| head.alignment())
+    Head::try_from(code).map_or(Alignment::One, |head| head.alignment())
 }
 
 // Where the codes go on behind the element that begins at `from`.
@@ -127,13 +127,12 @@ impl Walk<'_> {
         requires value { self.old.stands ≡ AtValue }
         ensures { Stepped O.ByteOrder.ordered self.old self.new result }
     {
-        match head_of(self.bytes[self.code]) {
-            Some(Head::Basic(kind)) => self.basic::<O>(kind),
-            Some(Head::Variant) => self.variant(),
-            Some(Head::Array) => self.array::<O>(),
-            Some(Head::Struct) => self.structure(),
-            Some(Head::Entry) => self.structure(),
-            None => unreachable(),
+        match Head::try_from(self.bytes[self.code]) {
+            Ok(Head::Basic(kind)) => self.basic::<O>(kind),
+            Ok(Head::Variant) => self.variant(),
+            Ok(Head::Array) => self.array::<O>(),
+            Ok(Head::Struct | Head::Entry) => self.structure(),
+            Err(_) => unreachable(),
         }
     }
 

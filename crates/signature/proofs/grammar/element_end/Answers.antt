@@ -1,7 +1,7 @@
-use Rattle.std.proofs.Common.{ℕ, ◌-◌, ◌≤◌, List, length, drop, sym, ap, subst, arith}
+use Rattle.std.proofs.Common.{ℕ, ◌-◌, ◌≤◌, List, length, drop, ap, arith}
 use Rattle.signature.specs.Trees.{ElementEnds}
 use Rattle.signature.specs.Phrases.{ElementAt}
-use Rattle.signature.proofs.Spellings.{element_shallow}
+use Rattle.signature.proofs.Spellings.{element_longer, element_shallow}
 use Rattle.signature.proofs.Fronts.{element_ends}
 use Rattle.signature.proofs.grammar.element_end.Goals as goal
 
@@ -21,8 +21,10 @@ returns-in_err-rest c =
     let big : length s ≤ 18446744073709551615 = omega arith in
     rw c.from_residual.ensures (λ n h. c.in_err-rest.ensures (drop n s) (deepest s n 18446744073709551615 big h))
 
+pub overflow_sub-result : goal.overflow_sub-result
+overflow_sub-result c =
+    let h = c.in_ok-rest.ensures in
+    omega (arith, element_longer h.element c.in_ok-rest.rest.now, ap length h.spells)
+
 pub returns : goal.returns
-returns c =
-    let s = c.args.bytes.now in
-    let P : ℕ → Type 0 = λ n. ElementEnds s n in
-    subst P (sym c.begin_of.ensures) (ends s c.in_ok-rest.rest.now 18446744073709551615 c.in_ok-rest.ensures)
+returns c = ends c.args.bytes.now c.in_ok-rest.rest.now 18446744073709551615 c.in_ok-rest.ensures

@@ -1,16 +1,15 @@
-use Rattle.std.proofs.Common.{ℕ, ◌∷◌, ap, ◌∙◌}
-use Rattle.text.proofs.Rows.{after_led, no_led_empty, no_led_other}
+use Rattle.std.proofs.Common.{[], ◌∷◌, Some, None}
+use Rattle.std.proofs.lemmas.Bool.Decides.{Decides-eqb}
+use Rattle.std.proofs.lemmas.Slice.Eq.{strip_prefix_is}
+use Rattle.text.proofs.Rows.{after_led, no_led}
 use Rattle.text.proofs.element.after_led.Goals as goal
 
-pub returns-in_err-first : goal.returns-in_err-first
-returns-in_err-first c =
-    rw c.from_residual.ensures (no_led_empty c.args.separator c.args.kind c.args.bytes.now c.in_err-first.ensures.cases)
-
-pub returns-then-first-separator : goal.returns-then-first-separator
-returns-then-first-separator c =
-    no_led_other c.args.separator c.args.kind c.args.bytes.now _ _ c.in_ok-first.ensures.cases.0 c.if-first-separator.true
+pub returns-in_err-strip_prefix : goal.returns-in_err-strip_prefix
+returns-in_err-strip_prefix c =
+    rw c.from_residual.ensures (no_led c.args.separator c.args.kind c.args.bytes.now (strip_prefix_is Decides-eqb c.args.bytes.now (c.args.separator ∷ []) None c.in_err-strip_prefix.ensures.cases))
 
 pub returns : goal.returns
 returns c =
-    let parted = c.in_ok-first.ensures.cases.0 ∙ ap (λ (b : ℕ). b ∷ c.in_ok-first.rest.now) c.if-first-separator.false in
-    after_led c.args.separator c.args.kind c.requires c.args.bytes.now _ c.after_element.result parted c.after_element.ensures
+    let rest = c.in_ok-strip_prefix.field-0 in
+    let parted = strip_prefix_is Decides-eqb c.args.bytes.now (c.args.separator ∷ []) (Some rest) c.in_ok-strip_prefix.ensures.cases in
+    after_led c.args.separator c.args.kind c.requires c.args.bytes.now rest.now c.after_element.result parted c.after_element.ensures

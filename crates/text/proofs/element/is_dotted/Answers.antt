@@ -1,6 +1,7 @@
-use Rattle.text.proofs.Rows.{dotted_as_led}
+use Rattle.std.proofs.Common.{rules}
+use Rattle.text.proofs.Rows.{dotted_by}
 use Rattle.text.proofs.element.is_dotted.Goals as goal
 
-pub returns-in-Some : goal.returns-in-Some
-returns-in-Some c =
-    dotted_as_led c.args.kind c.args.bytes.now c.in-Some.rest.now c.in-Some.ensures c.is_led.result c.is_led.ensures
+pub returns : goal.returns
+returns c =
+    dotted_by c.args.kind c.args.bytes.now c.after_element.result c.is_some_and.result (λ rest p. search rules) c.after_element.ensures c.is_some_and.ensures

@@ -5,4 +5,4 @@ pub bounds-self-self : goal.bounds-self-self
 bounds-self-self g c = code_in c.args.self.now c.requires.value c.requires.here
 
 pub unreachable-requires : goal.unreachable-requires
-unreachable-requires g c = absurd (no_head c.args.self.now c.requires.value c.requires.here c.in-None.ensures)
+unreachable-requires g c = absurd (no_head c.args.self.now c.requires.value c.requires.here c.in-Err.ensures)
