@@ -1,5 +1,5 @@
 -- Each step past a value keeps what a walk owes.
-use Rattle.std.proofs.Common.{◌≡◌, ℕ, ◌+◌, ◌-◌, ◌^◌, ◌<◌, ◌≤◌, ◌⊎◌, List, ◌∷◌, [], ◌++◌, length, get_or, take, drop, Some, None, Ok, Result, sym, refl, ap, ◌∙◌, subst, inl, inr, ⊎_elim, arith, length-drop, length-take}
+use Rattle.std.proofs.Common.{◌≡◌, ℕ, ◌+◌, ◌-◌, ◌^◌, ◌<◌, ◌≤◌, ◌⊎◌, List, ◌∷◌, [], ◌++◌, length, get_or, take, drop, Some, None, Option, Ok, Result, sym, refl, ap, ◌∙◌, subst, inl, inr, ⊎_elim, arith, length-drop, length-take}
 use mathlib.Core.List.{head-eq_of_cons-eq, tail-eq_of_cons-eq}
 use Rattle.std.specs.List.{slice_get}
 use Rattle.std.proofs.lemmas.List.{drop_more}
@@ -19,39 +19,26 @@ use Rattle.values.proofs.Ties.{all_end, top_is, below_is, fall_past, fall_pop}
 use Rattle.values.proofs.Steps.{joined}
 
 module _ (w : Walk) (past : w.stands ≡ PastValue) where
-  -- what is around a walk past a value, by its innermost frame
-  by_top : {e : ℕ} (P : Owed → Type 0) → innermost w ≡ None → ((ts : Trees) → Of e (past_value (top ts)) w → P (past_value (top ts))) → (o : Owed) → Of e o w → P o
-  by_top P t f (at_value i k) h = let at = h.tied.0 in absurd (cc)
-  by_top P t f (past_value (top ts)) h = f ts h
-  by_top P t f (past_value (in_struct ts k)) h = let s = h.tied.2 in let u = top_is s.0 w.frames.items Struct s.1 in absurd (cc)
-  by_top {e} P t f (past_value (in_array i q k)) h = let s = h.tied.2 in let u = top_is s.0 w.frames.items (Array s.1 (limit e k)) s.2 in absurd (cc)
-  by_top P t f (past_value (in_variant k)) h = let s = h.tied.2 in let u = top_is s.0 w.frames.items (Variant s.1) s.2 in absurd (cc)
-
   none_on_top : w.frames.items ≡ [] → innermost w ≡ None
   none_on_top h = ap (λ (fs : List Frame). slice_get fs (length fs - 1)) h
 
-  by_struct : {e : ℕ} (P : Owed → Type 0) → innermost w ≡ Some Struct → ((ts : Trees) (k : Around) → Of e (past_value (in_struct ts k)) w → P (past_value (in_struct ts k))) → (o : Owed) → Of e o w → P o
-  by_struct P t f (at_value i k) h = let at = h.tied.0 in absurd (cc)
-  by_struct P t f (past_value (top ts)) h = let u = none_on_top h.tied.2.0 in absurd (cc)
-  by_struct P t f (past_value (in_struct ts k)) h = f ts k h
-  by_struct {e} P t f (past_value (in_array i q k)) h = let s = h.tied.2 in let u = top_is s.0 w.frames.items (Array s.1 (limit e k)) s.2 in absurd (cc)
-  by_struct P t f (past_value (in_variant k)) h = let s = h.tied.2 in let u = top_is s.0 w.frames.items (Variant s.1) s.2 in absurd (cc)
+  module _ (e : ℕ) (P : Owed → Type 0) where
+    -- P holds of what is around a walk past a value, if its innermost frame is this one
+    abbrev Case : Option Frame → Type 0
+    Case None = (ts : Trees) → Of e (past_value (top ts)) w → P (past_value (top ts))
+    Case (Some Struct) = (ts : Trees) (k : Around) → Of e (past_value (in_struct ts k)) w → P (past_value (in_struct ts k))
+    Case (Some (Array x y)) =
+        (i : Element) (q : ℕ) (k : Around) (h : Of e (past_value (in_array i q k)) w) → h.tied.2.1 ≡ x → limit e k ≡ y → P (past_value (in_array i q k))
+    Case (Some (Variant x)) = (k : Around) (h : Of e (past_value (in_variant k)) w) → h.tied.2.1 ≡ x → P (past_value (in_variant k))
 
-  by_array : {e : ℕ} (P : Owed → Type 0) {x y : ℕ} → innermost w ≡ Some (Array x y)
-      → ((i : Element) (q : ℕ) (k : Around) (h : Of e (past_value (in_array i q k)) w) → h.tied.2.1 ≡ x → limit e k ≡ y → P (past_value (in_array i q k)))
-      → (o : Owed) → Of e o w → P o
-  by_array P t f (at_value i k) h = let at = h.tied.0 in absurd (cc)
-  by_array P t f (past_value (top ts)) h = let u = none_on_top h.tied.2.0 in absurd (cc)
-  by_array P t f (past_value (in_struct ts k)) h = let s = h.tied.2 in let u = top_is s.0 w.frames.items Struct s.1 in absurd (cc)
-  by_array {e} P t f (past_value (in_array i q k)) h = let s = h.tied.2 in let u = top_is s.0 w.frames.items (Array s.1 (limit e k)) s.2 in f i q k h (cc) (cc)
-  by_array P t f (past_value (in_variant k)) h = let s = h.tied.2 in let u = top_is s.0 w.frames.items (Variant s.1) s.2 in absurd (cc)
-
-  by_variant : {e : ℕ} (P : Owed → Type 0) {x : ℕ} → innermost w ≡ Some (Variant x) → ((k : Around) (h : Of e (past_value (in_variant k)) w) → h.tied.2.1 ≡ x → P (past_value (in_variant k))) → (o : Owed) → Of e o w → P o
-  by_variant P t f (at_value i k) h = let at = h.tied.0 in absurd (cc)
-  by_variant P t f (past_value (top ts)) h = let u = none_on_top h.tied.2.0 in absurd (cc)
-  by_variant P t f (past_value (in_struct ts k)) h = let s = h.tied.2 in let u = top_is s.0 w.frames.items Struct s.1 in absurd (cc)
-  by_variant {e} P t f (past_value (in_array i q k)) h = let s = h.tied.2 in let u = top_is s.0 w.frames.items (Array s.1 (limit e k)) s.2 in absurd (cc)
-  by_variant P t f (past_value (in_variant k)) h = let s = h.tied.2 in let u = top_is s.0 w.frames.items (Variant s.1) s.2 in f k h (cc)
+    by_frame : (f : Option Frame) → innermost w ≡ f → Case f → (o : Owed) → Of e o w → P o
+    by_frame f t p (at_value i k) h = let at = h.tied.0 in absurd (cc)
+    by_frame f t p (past_value (top ts)) h = subst Case (sym t ∙ none_on_top h.tied.2.0) p ts h
+    by_frame f t p (past_value (in_struct ts k)) h = let s = h.tied.2 in subst Case (sym t ∙ top_is s.0 w.frames.items Struct s.1) p ts k h
+    by_frame f t p (past_value (in_array i q k)) h =
+        let s = h.tied.2 in
+        subst Case (sym t ∙ top_is s.0 w.frames.items (Array s.1 (limit e k)) s.2) p i q k h refl refl
+    by_frame f t p (past_value (in_variant k)) h = let s = h.tied.2 in subst Case (sym t ∙ top_is s.0 w.frames.items (Variant s.1) s.2) p k h refl
 
   -- in a struct another code follows
   module _ (t : innermost w ≡ Some Struct) where
@@ -59,7 +46,7 @@ module _ (w : Walk) (past : w.stands ≡ PastValue) where
     code_in ts c ys h = omega (arith, all_longer ts (c ∷ ys), ap length h, length-drop w.code w.bytes.now)
 
     pub struct_in : Somewhere w → w.code < length w.bytes.now
-    struct_in s = by_struct (λ _. w.code < length w.bytes.now) t (λ ts k h. code_in ts h.tied.2.2 h.tied.2.3 h.tied.2.5) s.owed s.of
+    struct_in s = by_frame s.end (λ _. w.code < length w.bytes.now) (Some Struct) t (λ ts k h. code_in ts h.tied.2.2 h.tied.2.3 h.tied.2.5) s.owed s.of
 
 module _ (ordered : List ℕ → List ℕ) (w : Walk) (past : w.stands ≡ PastValue) where
   abbrev b : List ℕ
@@ -82,18 +69,18 @@ module _ (ordered : List ℕ → List ℕ) (w : Walk) (past : w.stands ≡ PastV
   top_goes : (Done w → ⊥) → {e : ℕ} (ts : Trees) → Of e (past_value (top ts)) w → Went ordered e (past_value (top ts)) w turned
   top_goes go none h =
       let s = h.tied.2 in
-      absurd (go (past, s.0, omega (arith, h.codes_within, h.tied.1, ap length s.1, length-drop w.codes_end b, length-drop w.code b)))
+      absurd (go (past, s.0, omega (arith, h.within.0, h.tied.1, ap length s.1, length-drop w.codes_end b, length-drop w.code b)))
   top_goes go {e} (more t ts) h =
       let s = h.tied.2 in
       record {
         message = refl;
         next = at_value (single t) (top ts);
-        of = record { codes_within = h.codes_within; within = h.within; limited = h.limited; place = h.place; tied = (refl, spell_all ts (drop w.codes_end b), s.1, (s.0, refl)) };
+        of = record { within = h.within; limited = h.limited; place = h.place; tied = (refl, spell_all ts (drop w.codes_end b), s.1, (s.0, refl)) };
         comes = λ r c. first_value e t ts r c;
       }
 
   pub top_moves : innermost w ≡ None → (Done w → ⊥) → length b < 2 ^ 64 → Moved ordered w turned
-  top_moves t go short = record { goes = λ e o h. by_top w past (λ o. Went ordered e o w turned) t (top_goes go) o h; falls = taken_up short w.code }
+  top_moves t go short = record { goes = λ e o h. by_frame w past e (λ o. Went ordered e o w turned) None t (top_goes go) o h; falls = taken_up short w.code }
 
   -- a struct: its next member
   module _ (t : innermost w ≡ Some Struct) where
@@ -109,7 +96,6 @@ module _ (ordered : List ℕ → List ℕ) (w : Walk) (past : w.stands ≡ PastV
           message = refl;
           next = at_value (single t) (in_struct ts k);
           of = record {
-            codes_within = h.codes_within;
             within = h.within;
             limited = h.limited;
             place = h.place;
@@ -122,7 +108,7 @@ module _ (ordered : List ℕ → List ℕ) (w : Walk) (past : w.stands ≡ PastV
         }
 
     pub struct_moves : (get_or b w.code 0 ≡ 41 → ⊥) → (get_or b w.code 0 ≡ 125 → ⊥) → length b < 2 ^ 64 → Moved ordered w turned
-    struct_moves n41 n125 short = record { goes = λ e o h. by_struct w past (λ o. Went ordered e o w turned) t (member_goes n41 n125) o h; falls = taken_up short w.code }
+    struct_moves n41 n125 short = record { goes = λ e o h. by_frame w past e (λ o. Went ordered e o w turned) (Some Struct) t (member_goes n41 n125) o h; falls = taken_up short w.code }
 
   -- an array
   module _ (x outer : ℕ) (t : innermost w ≡ Some (Array x outer)) (lt : w.at < w.end) where
@@ -138,7 +124,6 @@ module _ (ordered : List ℕ → List ℕ) (w : Walk) (past : w.stands ≡ PastV
           message = refl;
           next = at_value i (in_array i q k);
           of = record {
-            codes_within = h.codes_within;
             within = h.within;
             limited = h.limited;
             place = h.place;
@@ -151,7 +136,7 @@ module _ (ordered : List ℕ → List ℕ) (w : Walk) (past : w.stands ≡ PastV
         }
 
     pub array_moves : length b < 2 ^ 64 → Moved ordered w next_element
-    array_moves short = record { goes = λ e o h. by_array w past (λ o. Went ordered e o w next_element) t element_goes o h; falls = taken_up short x }
+    array_moves short = record { goes = λ e o h. by_frame w past e (λ o. Went ordered e o w next_element) (Some (Array x outer)) t element_goes o h; falls = taken_up short x }
 
   -- the end of a container, whose frame is taken off
   module _ (fr : ArrayVec Frame) (popped : fr.items ≡ take (length w.frames.items - 1) w.frames.items) where
@@ -182,7 +167,6 @@ module _ (ordered : List ℕ → List ℕ) (w : Walk) (past : w.stands ≡ PastV
             message = refl;
             next = past_value k;
             of = record {
-              codes_within = h.codes_within;
               within = h.within;
               limited = h.limited;
               place = h.place;
@@ -200,7 +184,7 @@ module _ (ordered : List ℕ → List ℕ) (w : Walk) (past : w.stands ≡ PastV
           absurd (no_type_closes (get_or b w.code 0) closes u (spell_all ts (s.2 ∷ s.3)) (drop (w.code + 1) b) (s.5 ∙ drop_more b w.code 0 lt))
 
       pub struct_leaves : length b < 2 ^ 64 → Moved ordered w struct_left
-      struct_leaves short = record { goes = λ e o h. by_struct w past (λ o. Went ordered e o w struct_left) t struct_ends o h; falls = left short Struct t (w.code + 1) w.end }
+      struct_leaves short = record { goes = λ e o h. by_frame w past e (λ o. Went ordered e o w struct_left) (Some Struct) t struct_ends o h; falls = left short Struct t (w.code + 1) w.end }
 
     module _ (x outer : ℕ) (t : innermost w ≡ Some (Array x outer)) (le : w.end ≤ w.at) where
       abbrev array_left : Walk
@@ -215,7 +199,6 @@ module _ (ordered : List ℕ → List ℕ) (w : Walk) (past : w.stands ≡ PastV
             message = refl;
             next = past_value k;
             of = record {
-              codes_within = h.codes_within;
               within = h.within;
               limited = sym oe;
               place = omega (arith, pe, oe, s.3);
@@ -225,7 +208,7 @@ module _ (ordered : List ℕ → List ℕ) (w : Walk) (past : w.stands ≡ PastV
           }
 
       pub array_leaves : length b < 2 ^ 64 → Moved ordered w array_left
-      array_leaves short = record { goes = λ e o h. by_array w past (λ o. Went ordered e o w array_left) t array_ends o h; falls = left short (Array x outer) t w.code outer }
+      array_leaves short = record { goes = λ e o h. by_frame w past e (λ o. Went ordered e o w array_left) (Some (Array x outer)) t array_ends o h; falls = left short (Array x outer) t w.code outer }
 
     module _ (x : ℕ) (t : innermost w ≡ Some (Variant x)) where
       abbrev variant_left : Walk
@@ -240,7 +223,6 @@ module _ (ordered : List ℕ → List ℕ) (w : Walk) (past : w.stands ≡ PastV
             message = refl;
             next = past_value k;
             of = record {
-              codes_within = h.codes_within;
               within = h.within;
               limited = h.limited;
               place = h.place;
@@ -250,14 +232,14 @@ module _ (ordered : List ℕ → List ℕ) (w : Walk) (past : w.stands ≡ PastV
           }
 
       pub variant_leaves : length b < 2 ^ 64 → Moved ordered w variant_left
-      variant_leaves short = record { goes = λ e o h. by_variant w past (λ o. Went ordered e o w variant_left) t variant_ends o h; falls = left short (Variant x) t x w.end }
+      variant_leaves short = record { goes = λ e o h. by_frame w past e (λ o. Went ordered e o w variant_left) (Some (Variant x)) t variant_ends o h; falls = left short (Variant x) t x w.end }
 
 -- with nothing more to walk, all is well
 pub done_comes : (ordered : List ℕ → List ℕ) (w : Walk) → Done w → (e : ℕ) (o : Owed) → Of e o w → Comes ordered w.bytes.now e o w.at (Ok w.at)
 done_comes ordered w d e o h =
     let b = w.bytes.now in
-    by_top w d.0
-    (λ o. Comes ordered b e o w.at (Ok w.at))
+    by_frame w d.0 e
+    (λ o. Comes ordered b e o w.at (Ok w.at)) None
     (none_on_top w d.0 d.1)
     (λ ts h. let n = all_end ts (drop w.codes_end b) (ap length h.tied.2.1 ∙ ap (λ (m : ℕ). length (drop m b)) d.2) in
     subst (λ (us : Trees). Values ordered b 0 e us w.at (Ok w.at)) (sym n) ends)

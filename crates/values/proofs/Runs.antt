@@ -30,8 +30,7 @@ module _ (ordered : List ℕ → List ℕ) (bytes : List ℕ) (codes : Span) (at
     owes_all ts e =
         let all = in_message bytes codes spelled.order ts e in
         record {
-          codes_within = omega (arith, ap length message, last, spelled.inside);
-          within = omega (arith, ap length message);
+          within = (omega (arith, ap length message, last, spelled.inside), omega (arith, ap length message));
           limited = limited;
           place = omega arith;
           tied = (past, omega (arith, ap length message, code, spelled.order, spelled.inside), (none, rw (message, last, code) all));

@@ -20,7 +20,7 @@ use Rattle.values.specs.declared.walk.Stands.TheVariants.{AtValue, PastValue}
 use Rattle.values.specs.declared.walk.Walk.{Walk}
 use Rattle.values.specs.Values.{lies_as, Value, leaf, struct_bad, struct_is, array_bad, array_is, variant_bad, variant_is, Values, goes, fails, Elements, no_more, one_more, bad_one}
 use Rattle.values.specs.Walks.{Around, in_struct, in_array, in_variant, depth_of, limit, Owed, at_value, past_value, Rest, Comes, Stacked, Of, Somewhere, AtHead, Went, Moved, Fails}
-use Rattle.values.proofs.Ties.{at_code, with_code, head_at, at_basic, at_variant, at_array, Opens, at_struct, at_entry, limit_le, depth_is, spelled, fall_at, fall_code}
+use Rattle.values.proofs.Ties.{at_code, with_code, Shape, shape_at, at_basic, at_variant, at_array, Opens, at_struct, at_entry, limit_le, depth_is, spelled, fall_at, fall_code}
 
 -- `A` and then `B` and then `C`: what joins `A` to `B` joins the three
 module _ {X Y Z : Type 0} (A : Result X Flaw → Type 0) (B : X → Result Y Flaw → Type 0) (C : Y → Result Z Flaw → Type 0) (D : Result Y Flaw → Type 0)
@@ -60,7 +60,7 @@ module _ (w : Walk) (value : w.stands ≡ AtValue) where
   end_in s =
       by_value
       (λ _. w.end ≤ length w.bytes.now)
-      (λ i k h. omega (arith, h.limited, h.within, limit_le w.bytes.now w.codes_end s.end k w.frames.items h.tied.1 h.tied.3))
+      (λ i k h. omega (arith, h.limited, h.within.1, limit_le w.bytes.now w.codes_end s.end k w.frames.items h.tied.1 h.tied.3))
       s.owed s.of
 
 module _ (ordered : List ℕ → List ℕ) (w : Walk) where
@@ -82,11 +82,8 @@ module _ (ordered : List ℕ → List ℕ) (w : Walk) where
     room = length-take-le w.end b (end_in w s.value s.here)
 
     module _ {e : ℕ} (i : Element) (k : Around) (h : Of e (at_value i k) w) where
-      coded : spell_element i h.tied.1 ≡ get_or b w.code 0 ∷ drop (w.code + 1) b
-      coded = with_code b i h.tied.1 w.code h.tied.2
-
-      headed : head_of_element i ≡ x
-      headed = head_at b i h.tied.1 w.code x h.tied.2 s.head
+      shaped : Shape x i h.tied.1 (drop (w.code + 1) b)
+      shaped = shape_at b i h.tied.1 w.code x h.tied.2 s.head
 
       -- from the depth and the end of the walk to those of what is around
       moved : (P : ℕ → ℕ → Type 0) → P deep w.end → P (depth_of k) (limit e k)
@@ -99,7 +96,7 @@ module _ (ordered : List ℕ → List ℕ) (w : Walk) where
   module _ (c : Basic) (s : AtHead (head.Basic c) w) where
     module _ {e : ℕ} (i : Element) (k : Around) (h : Of e (at_value i k) w) where
       basic_is : (lies_as i ≡ basic c) × (h.tied.1 ≡ drop (w.code + 1) b)
-      basic_is = at_basic i c h.tied.1 (drop (w.code + 1) b) (get_or b w.code 0) (headed (head.Basic c) s i k h) (coded (head.Basic c) s i k h)
+      basic_is = at_basic (shaped (head.Basic c) s i k h)
 
       basic_value : (r : Result ℕ Flaw) → Leaf area ordered c deep w.at r → V e k (lies_as i) w.at r
       basic_value r l =
@@ -122,7 +119,6 @@ module _ (ordered : List ℕ → List ℕ) (w : Walk) where
             message = refl;
             next = past_value k;
             of = record {
-              codes_within = h.codes_within;
               within = h.within;
               limited = h.limited;
               place = basic_ends.1;
@@ -143,8 +139,8 @@ module _ (ordered : List ℕ → List ℕ) (w : Walk) where
       opens : Opens i h.tied.1 (drop (w.code + 1) b)
       opens =
           ⊎_elim
-          (λ z. at_struct i h.tied.1 (drop (w.code + 1) b) (get_or b w.code 0) (headed x s i k h ∙ z) (coded x s i k h))
-          (λ z. at_entry i h.tied.1 (drop (w.code + 1) b) (get_or b w.code 0) (headed x s i k h ∙ z) (coded x s i k h))
+          (λ z. at_struct (subst (λ (y : Head). Shape y i h.tied.1 (drop (w.code + 1) b)) z (shaped x s i k h)))
+          (λ z. at_entry (subst (λ (y : Head). Shape y i h.tied.1 (drop (w.code + 1) b)) z (shaped x s i k h)))
           sx
 
       opened : (r : Result ℕ Flaw) → Opened area deep w.at r → Opened (take (limit e k) b) (depth_of k) w.at r
@@ -173,7 +169,6 @@ module _ (ordered : List ℕ → List ℕ) (w : Walk) where
             message = refl;
             next = at_value (single v.first) (in_struct v.others k);
             of = record {
-              codes_within = h.codes_within;
               within = h.within;
               limited = h.limited;
               place = struct_ends.1;
@@ -196,7 +191,7 @@ module _ (ordered : List ℕ → List ℕ) (w : Walk) where
   -- an array
   module _ (s : AtHead head.Array w) where
     element : {e : ℕ} (i : Element) (k : Around) (h : Of e (at_value i k) w) → (f : Element) × (lies_as i ≡ array f) × (spell_element f h.tied.1 ≡ drop (w.code + 1) b)
-    element i k h = at_array i h.tied.1 (drop (w.code + 1) b) (get_or b w.code 0) (headed head.Array s i k h) (coded head.Array s i k h)
+    element i k h = at_array (shaped head.Array s i k h)
 
     pub element_in : w.code + 1 < length b
     element_in =
@@ -238,7 +233,6 @@ module _ (ordered : List ℕ → List ℕ) (w : Walk) where
                 message = refl;
                 next = at_value j.0 (in_array j.0 t.to k);
                 of = record {
-                  codes_within = h.codes_within;
                   within = h.within;
                   limited = refl;
                   place = omega (arith, lt);
@@ -277,7 +271,6 @@ module _ (ordered : List ℕ → List ℕ) (w : Walk) where
                 message = refl;
                 next = past_value k;
                 of = record {
-                  codes_within = h.codes_within;
                   within = h.within;
                   limited = h.limited;
                   place = omega (arith, eq, array_ends.2);
@@ -298,7 +291,7 @@ module _ (ordered : List ℕ → List ℕ) (w : Walk) where
   -- a variant
   module _ (s : AtHead head.Variant w) where
     variant_there : {e : ℕ} (i : Element) (k : Around) (h : Of e (at_value i k) w) → (lies_as i ≡ variant) × (h.tied.1 ≡ drop (w.code + 1) b)
-    variant_there i k h = at_variant i h.tied.1 (drop (w.code + 1) b) (get_or b w.code 0) (headed head.Variant s i k h) (coded head.Variant s i k h)
+    variant_there i k h = at_variant (shaped head.Variant s i k h)
 
     pub variant_fails : (f : Flaw) → Typed area deep w.at (Err f) → Fails ordered w f
     variant_fails f p e o h =
@@ -327,7 +320,6 @@ module _ (ordered : List ℕ → List ℕ) (w : Walk) where
             message = refl;
             next = at_value (single one.type) (in_variant k);
             of = record {
-              codes_within = h.codes_within;
               within = h.within;
               limited = h.limited;
               place = variant_ends.1;

@@ -1,16 +1,15 @@
 -- What ties a walk to what it owes: the codes that are to come, the limits, the frames.
-use Rattle.std.proofs.Common.{◌≡◌, ℕ, ◌+◌, ◌-◌, ◌*◌, ◌^◌, ◌<◌, ◌≤◌, ◌⊎◌, List, [], ◌∷◌, ◌++◌, length, get_or, take, drop, Some, sym, refl, ap, ap₂, ◌∙◌, inl, inr, arith, length-append, length-drop, take-append-drop, drop-drop}
+use Rattle.std.proofs.Common.{◌≡◌, ℕ, ◌+◌, ◌-◌, ◌*◌, ◌^◌, ◌<◌, ◌≤◌, ◌⊎◌, List, [], ◌∷◌, ◌++◌, length, get_or, take, drop, Some, sym, refl, ap, ap₂, subst, ◌∙◌, inl, inr, arith, length-append, length-drop, take-append-drop, drop-drop}
 use Rattle.std.proofs.Math.Seq.{get_or-append_seam, take-append_seam}
 use Rattle.std.specs.List.{slice_get}
 use Rattle.std.proofs.lemmas.Option.{slice_get-get_or}
-use mathlib.Core.List.{tail-eq_of_cons-eq}
 use Rattle.std.proofs.lemmas.List.{drop_more, drop-take, take-take}
 use Rattle.signature.specs.declared.codes.Basic.{Basic}
 use Rattle.signature.specs.declared.codes.Head.{Head}
 use Rattle.signature.specs.declared.codes.Head.TheVariants as head
 use Rattle.signature.specs.Codes.{head_code}
 use Rattle.signature.specs.Trees.{Tree, basic, variant, array, struct, Element, single, entry, Trees, none, more, spell, spell_element, spell_all, head_of_element, Single}
-use Rattle.signature.proofs.Heads.{head_once, apart}
+use Rattle.signature.proofs.Heads.{head_once}
 use Rattle.signature.proofs.Spellings.{appended, longer, element_longer, all_longer, all_appended, element_begins}
 use Rattle.items.specs.declared.Span.{Span}
 use Rattle.values.specs.declared.walk.Frame.{Frame}
@@ -27,30 +26,36 @@ at_code bytes e r s h = omega (arith, element_longer e r, ap length h, length-dr
 pub with_code : (bytes : List ℕ) (e : Element) (r : List ℕ) (s : ℕ) → spell_element e r ≡ drop s bytes → spell_element e r ≡ get_or bytes s 0 ∷ drop (s + 1) bytes
 with_code bytes e r s h = h ∙ drop_more bytes s 0 (at_code bytes e r s h)
 
-pub head_at : (bytes : List ℕ) (e : Element) (r : List ℕ) (s : ℕ) (h : Head) → spell_element e r ≡ drop s bytes → head_code h ≡ get_or bytes s 0 → head_of_element e ≡ h
-head_at bytes e r s h k c = head_once (head_of_element e) h (element_begins e r (drop (s + 1) bytes) (get_or bytes s 0) (with_code bytes e r s k) ∙ sym c)
+-- what an element is, by its head, what follows it, and what follows its head
+pub data Shape : Head → Element → List ℕ → List ℕ → Type 0 where
+  is_basic : {b : Basic} {r : List ℕ} → Shape (head.Basic b) (single (basic b)) r r
+  is_variant : {r : List ℕ} → Shape head.Variant (single variant) r r
+  is_array : {f : Element} {r : List ℕ} → Shape head.Array (single (array f)) r (spell_element f r)
+  is_struct : {t : Tree} {ts : Trees} {r : List ℕ} → Shape head.Struct (single (struct t ts)) r (spell t (spell_all ts (41 ∷ r)))
+  is_entry : {j : Basic} {t : Tree} {r : List ℕ} → Shape head.Entry (entry j t) r (spell (basic j) (spell t (125 ∷ r)))
 
--- what the head of an element tells of it
-pub at_basic : (e : Element) (b : Basic) (r s : List ℕ) (c : ℕ) → head_of_element e ≡ head.Basic b → spell_element e r ≡ c ∷ s → (lies_as e ≡ basic b) × (r ≡ s)
-at_basic (single (basic d)) b r s c h k = (let f : d ≡ b = cc in ap basic f, tail-eq_of_cons-eq k)
-at_basic (single variant) b r s c h k = apart h (omega arith)
-at_basic (single (array f)) b r s c h k = apart h (omega arith)
-at_basic (single (struct t ts)) b r s c h k = apart h (omega arith)
-at_basic (entry j t) b r s c h k = apart h (omega arith)
+shape : (e : Element) (r : List ℕ) → Shape (head_of_element e) e r (drop 1 (spell_element e r))
+shape (single (basic b)) r = is_basic
+shape (single variant) r = is_variant
+shape (single (array f)) r = is_array
+shape (single (struct t ts)) r = is_struct
+shape (entry j t) r = is_entry
 
-pub at_variant : (e : Element) (r s : List ℕ) (c : ℕ) → head_of_element e ≡ head.Variant → spell_element e r ≡ c ∷ s → (lies_as e ≡ variant) × (r ≡ s)
-at_variant (single (basic d)) r s c h k = apart h (omega arith)
-at_variant (single variant) r s c h k = (refl, tail-eq_of_cons-eq k)
-at_variant (single (array f)) r s c h k = apart h (omega arith)
-at_variant (single (struct t ts)) r s c h k = apart h (omega arith)
-at_variant (entry j t) r s c h k = apart h (omega arith)
+-- an element that begins with the code of this head
+pub shape_at : (bytes : List ℕ) (e : Element) (r : List ℕ) (s : ℕ) (h : Head) → spell_element e r ≡ drop s bytes → head_code h ≡ get_or bytes s 0 → Shape h e r (drop (s + 1) bytes)
+shape_at bytes e r s h k c =
+    let front = with_code bytes e r s k in
+    subst (λ (x : Head). Shape x e r (drop (s + 1) bytes)) (head_once (head_of_element e) h (element_begins e r (drop (s + 1) bytes) (get_or bytes s 0) front ∙ sym c))
+    (subst (λ (xs : List ℕ). Shape (head_of_element e) e r xs) (ap (drop 1) front) (shape e r))
 
-pub at_array : (e : Element) (r s : List ℕ) (c : ℕ) → head_of_element e ≡ head.Array → spell_element e r ≡ c ∷ s → (f : Element) × (lies_as e ≡ array f) × (spell_element f r ≡ s)
-at_array (single (basic d)) r s c h k = apart h (omega arith)
-at_array (single variant) r s c h k = apart h (omega arith)
-at_array (single (array f)) r s c h k = (f, refl, tail-eq_of_cons-eq k)
-at_array (single (struct t ts)) r s c h k = apart h (omega arith)
-at_array (entry j t) r s c h k = apart h (omega arith)
+pub at_basic : {e : Element} {b : Basic} {r s : List ℕ} → Shape (head.Basic b) e r s → (lies_as e ≡ basic b) × (r ≡ s)
+at_basic is_basic = (refl, refl)
+
+pub at_variant : {e : Element} {r s : List ℕ} → Shape head.Variant e r s → (lies_as e ≡ variant) × (r ≡ s)
+at_variant is_variant = (refl, refl)
+
+pub at_array : {e : Element} {r s : List ℕ} → Shape head.Array e r s → (f : Element) × (lies_as e ≡ array f) × (spell_element f r ≡ s)
+at_array (is_array {f}) = (f, refl, refl)
 
 -- a struct and a dict entry, with the bracket that closes it
 pub record Opens (e : Element) (r s : List ℕ) : Type 0 where
@@ -61,19 +66,11 @@ pub record Opens (e : Element) (r s : List ℕ) : Type 0 where
   pub closing : (bracket ≡ 41) ⊎ (bracket ≡ 125)
   pub spells : spell first (spell_all others (bracket ∷ r)) ≡ s
 
-pub at_struct : (e : Element) (r s : List ℕ) (c : ℕ) → head_of_element e ≡ head.Struct → spell_element e r ≡ c ∷ s → Opens e r s
-at_struct (single (basic d)) r s c h k = apart h (omega arith)
-at_struct (single variant) r s c h k = apart h (omega arith)
-at_struct (single (array f)) r s c h k = apart h (omega arith)
-at_struct (single (struct t ts)) r s c h k = record { first = t; others = ts; bracket = 41; lies = refl; closing = inl refl; spells = tail-eq_of_cons-eq k }
-at_struct (entry j t) r s c h k = apart h (omega arith)
+pub at_struct : {e : Element} {r s : List ℕ} → Shape head.Struct e r s → Opens e r s
+at_struct (is_struct {t} {ts}) = record { first = t; others = ts; bracket = 41; lies = refl; closing = inl refl; spells = refl }
 
-pub at_entry : (e : Element) (r s : List ℕ) (c : ℕ) → head_of_element e ≡ head.Entry → spell_element e r ≡ c ∷ s → Opens e r s
-at_entry (single (basic d)) r s c h k = apart h (omega arith)
-at_entry (single variant) r s c h k = apart h (omega arith)
-at_entry (single (array f)) r s c h k = apart h (omega arith)
-at_entry (single (struct t ts)) r s c h k = apart h (omega arith)
-at_entry (entry j t) r s c h k = record { first = basic j; others = more t none; bracket = 125; lies = refl; closing = inr refl; spells = tail-eq_of_cons-eq k }
+pub at_entry : {e : Element} {r s : List ℕ} → Shape head.Entry e r s → Opens e r s
+at_entry (is_entry {j} {t}) = record { first = basic j; others = more t none; bracket = 125; lies = refl; closing = inr refl; spells = refl }
 
 module _ (bytes : List ℕ) (ce e : ℕ) where
   pub limit_le : (k : Around) (fs : List Frame) (xs : List ℕ) → Stacked bytes ce e k fs xs → limit e k ≤ e

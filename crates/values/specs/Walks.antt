@@ -75,8 +75,7 @@ module _ (bytes : List ℕ) (codes_end end : ℕ) where
 
 -- a walk through values up to an end owes this
 pub record Of (end : ℕ) (o : Owed) (w : Walk) : Type 0 where
-  pub codes_within : w.codes_end ≤ length w.bytes.now
-  pub within : end ≤ length w.bytes.now
+  pub within : (w.codes_end ≤ length w.bytes.now) × (end ≤ length w.bytes.now)
   pub limited : w.end ≡ limit end (around_of o)
   pub place : w.at ≤ w.end
   pub tied : Tied w.bytes.now w.codes_end end o w.stands w.frames.items w.code
