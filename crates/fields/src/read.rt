@@ -1,6 +1,6 @@
 // Reading the fields.
-ghost use Rattle.std.specs.Prelude.{◌≡◌, ◌+◌, ◌-◌, ◌^◌, ◌<◌, ◌≤◌, length, take, Ok as Fine, Decides};
-ghost use Rattle.items.specs.Items.{Typed, codes_at, text_at};
+ghost use Rattle.std.specs.Prelude.{◌≡◌, ◌+◌, ◌-◌, ◌^◌, ◌<◌, ◌≤◌, length, take, Ok as Fine, Decides, MatchOption};
+ghost use Rattle.items.specs.Items.{Typed, codes_at, number_at, text_at};
 ghost use Rattle.items.specs.Faults.{flaw as flaw_of};
 ghost use Rattle.fields.specs.Known.{known};
 ghost use Rattle.fields.specs.Headers.{place_of, Free, Own, start as start_of_lem, noted, Proper, Coded, Kinded, Fitting, Valued, OneField, AllFields, none_yet, Header};
@@ -9,7 +9,7 @@ ghost use Rattle.fields.specs.Words.{Wordy};
 use crate::Fields;
 use crate::known::{Field, field_of};
 use area::front;
-use items::{Cause, Flaw, Span, gap, pad, type_code, word};
+use items::{Cause, Flaw, Place, Span, gap};
 use order::ByteOrder;
 use signature::Alignment;
 use text::{bus_name, is_interface, is_member};
@@ -71,12 +71,24 @@ fn flaw(cause: Cause, byte: usize) -> Flaw
     Flaw { cause, byte }
 }
 
+// The number of 32 bits at `at`, if it has room in the area.
+fn word_at<O: ByteOrder>(area: &[u8], at: usize) -> Option<u32>
+    ensures { MatchOption result (length area.now < at + 4) (λ n. (at + 4 ≤ length area.now) × (n ≡ number_at area.now O.ByteOrder.ordered at)) }
+{
+    let place = Place {
+        area,
+        at,
+        around: 0,
+    };
+    place.word::<O>()
+}
+
 // The bytes of the text at `at`.
 fn text_at<O: ByteOrder>(area: &[u8], at: usize) -> &[u8]
     requires { at + 4 ≤ length area.now }
     ensures { result.now ≡ text_at area.now O.ByteOrder.ordered at }
 {
-    let size = word::<O>(area, at).unwrap_or(0) as usize;
+    let size = word_at::<O>(area, at).unwrap_or(0) as usize;
     front(&area[at + 4..], size)
 }
 
@@ -89,7 +101,7 @@ fn is_proper<O: ByteOrder>(area: &[u8], field: Option<Field>, at: usize) -> bool
         Some(Field::Interface) => is_interface(text_at::<O>(area, at)),
         Some(Field::Member) => is_member(text_at::<O>(area, at)),
         Some(Field::ErrorName) => is_interface(text_at::<O>(area, at)),
-        Some(Field::ReplySerial) => word::<O>(area, at).unwrap_or(0) != 0,
+        Some(Field::ReplySerial) => word_at::<O>(area, at).unwrap_or(0) != 0,
         Some(Field::Destination) => bus_name(text_at::<O>(area, at)).is_some(),
         Some(Field::Sender) => bus_name(text_at::<O>(area, at)).is_some(),
         Some(Field::Path) => true,
@@ -125,7 +137,12 @@ fn is_own(field: Option<Field>, codes: &[u8]) -> bool
 fn type_at(area: &[u8], code: u8, at: usize) -> Result<usize, Flaw>
     ensures { Kinded area.now code at result }
 {
-    let end = type_code(area, at, 0)?;
+    let place = Place {
+        area,
+        at,
+        around: 0,
+    };
+    let end = place.type_code()?;
     let from = at + 1;
     let to = end - 1;
     if !is_own(field_of(code), &area[from..to]) {
@@ -181,7 +198,12 @@ fn field<O: ByteOrder>(bytes: &[u8], end: usize, fields: Fields) -> Result<Field
     ensures { OneField O.ByteOrder.ordered bytes.now end fields result }
 {
     let area = front(bytes, end);
-    let start = pad(area, fields.at, Alignment::Eight)?;
+    let place = Place {
+        area,
+        at: fields.at,
+        around: 0,
+    };
+    let start = place.pad(Alignment::Eight)?;
     let code = code_at(area, fields, start)?;
     let kind = start + 1;
     let at = type_at(area, code, kind)?;
@@ -211,6 +233,11 @@ pub fn read_fields<O: ByteOrder>(bytes: &[u8], end: usize) -> Result<Fields, Fla
         return Err(flaw(Cause::PastEnd, START));
     }
     let fields = all_fields::<O>(bytes, end)?;
-    let _ = pad(bytes, end, Alignment::Eight)?;
+    let place = Place {
+        area: bytes,
+        at: end,
+        around: 0,
+    };
+    let _ = place.pad(Alignment::Eight)?;
     Ok(fields)
 }

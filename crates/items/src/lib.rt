@@ -5,7 +5,7 @@ pub mod fault;
 mod read;
 
 pub use fault::{Cause, Fault, Flaw, Part};
-pub use read::{array, basic, gap, pad, structure, type_code, word};
+pub use read::{Place, gap};
 
 // The bytes from one place up to another.
 #[derive(Clone, Copy)]

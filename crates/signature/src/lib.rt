@@ -2,7 +2,7 @@
 #![tactic(auto)]
 
 pub mod codes;
-mod grammar;
+pub mod grammar;
 
 pub use codes::{Alignment, Basic, Head, NoCode};
 pub use grammar::{element_end, first_type, is_signature, is_single, judged_examples};

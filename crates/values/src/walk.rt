@@ -10,7 +10,7 @@ ghost use Rattle.values.specs.Walks.{Somewhere, AtHead, Done, innermost, Moved, 
 
 use area::front;
 use arrayvec::ArrayVec;
-use items::{Flaw, Span, array, basic, structure, type_code};
+use items::{Flaw, Place, Span};
 use order::ByteOrder;
 use signature::{Alignment, Basic, Head, element_end};
 
@@ -64,13 +64,26 @@ fn past_element(bytes: &[u8], from: usize) -> usize
     from + element_end(&bytes[from..]).unwrap_or(0)
 }
 
-impl Walk<'_> {
+impl<'a> Walk<'a> {
+    // Where the next item begins.
+    fn place(&self) -> Place<'a>
+        ensures area { result.area.now ≡ take self.now.end self.now.bytes.now }
+        ensures at { result.at ≡ self.now.at }
+        ensures around { result.around ≡ length self.now.frames.items }
+        ensures few { result.around ≤ 65 }
+    {
+        Place {
+            area: front(self.bytes, self.end),
+            at: self.at,
+            around: self.frames.len(),
+        }
+    }
+
     fn basic<O: ByteOrder>(&mut self, kind: Basic) -> Result<(), Flaw>
         requires { AtHead (heads.Basic kind) self.old }
         ensures { Stepped O.ByteOrder.ordered self.old self.new result }
     {
-        let area = front(self.bytes, self.end);
-        self.at = basic::<O>(area, self.at, kind, self.frames.len())?;
+        self.at = self.place().basic::<O>(kind)?;
         self.code += 1;
         self.stands = Stands::PastValue;
         Ok(())
@@ -80,8 +93,7 @@ impl Walk<'_> {
         requires { AtHead heads.Struct self.old ⊎ AtHead heads.Entry self.old }
         ensures { (ordered : List ℕ → List ℕ) → Stepped ordered self.old self.new result }
     {
-        let area = front(self.bytes, self.end);
-        self.at = structure(area, self.at, self.frames.len())?;
+        self.at = self.place().structure()?;
         self.code += 1;
         self.frames.push(Frame::Struct);
         Ok(())
@@ -93,8 +105,7 @@ impl Walk<'_> {
     {
         let element = self.code + 1;
         let alignment = alignment_of(self.bytes[element]);
-        let area = front(self.bytes, self.end);
-        let span = array::<O>(area, self.at, alignment, self.frames.len())?;
+        let span = self.place().array::<O>(alignment)?;
         self.at = span.from;
         if span.from < span.to {
             let outer = self.end;
@@ -112,8 +123,7 @@ impl Walk<'_> {
         requires { AtHead heads.Variant self.old }
         ensures { (ordered : List ℕ → List ℕ) → Stepped ordered self.old self.new result }
     {
-        let area = front(self.bytes, self.end);
-        let at = type_code(area, self.at, self.frames.len())?;
+        let at = self.place().type_code()?;
         let codes = self.code + 1;
         self.frames.push(Frame::Variant { codes });
         self.code = self.at + 1;

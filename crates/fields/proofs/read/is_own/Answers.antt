@@ -14,7 +14,7 @@ pub returns-then-codes-eq1 : goal.returns-then-codes-eq1
 returns-then-codes-eq1 c =
     let xs = c.args.codes.now in
     let own : Option Field → Type 0 = λ o. Own o xs in
-    let code = c.code.ensures ∙ ap code_of_lem c.value_type.ensures in (
+    let code = c.from.ensures ∙ ap code_of_lem c.value_type.ensures in (
       λ e. subst own (sym c.in-Some.is) (only xs c.if-codes-eq1.true ∙ ap (λ (x : ℕ). x ∷ []) (eqb-true _ _ e ∙ code)),
       λ h. eq-eqb _ _ (ap (λ (ys : List ℕ). get_or ys 0 0) (subst own c.in-Some.is h) ∙ sym code),
     )

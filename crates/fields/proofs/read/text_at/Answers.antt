@@ -11,5 +11,5 @@ pub returns : goal.returns
 returns g c =
     let area = c.args.area.now in
     let at = c.args.at in
-    let size = c.unwrap_or-size.ensures ∙ there c.word.result (length area) at _ c.requires c.word.ensures in
+    let size = c.unwrap_or-size.ensures ∙ there c.word_at.result (length area) at _ c.requires c.word_at.ensures in
     simp take_rest at c.front.ensures ∙ ap (λ (n : ℕ). take n (drop (at + 4) area)) size

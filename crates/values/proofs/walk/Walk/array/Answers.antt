@@ -9,19 +9,19 @@ bounds-self-element g c = element_in g.O.ByteOrder.ordered c.args.self.now c.req
 pub returns-in_err-span : goal.returns-in_err-span
 returns-in_err-span g c =
     let p = err_from_is_err_and c.from_residual.result c.from_residual.ensures.1 in
-    let l = rw (c.front-area.ensures, c.len.ensures.value) at c.in_err-span.ensures in
+    let l = rw (c.place.ensures.area, c.place.ensures.at, c.place.ensures.around) at c.in_err-span.ensures in
     rw (p.1, p.2) (array_fails g.O.ByteOrder.ordered c.args.self.now c.requires c.alignment_of-alignment.result c.alignment_of-alignment.ensures c.in_err-span.field-0.0 l)
 
 pub returns-then-span : goal.returns-then-span
 returns-then-span g c =
-    let l = rw (c.front-area.ensures, c.len.ensures.value) at c.in_ok-span.ensures in
+    let l = rw (c.place.ensures.area, c.place.ensures.at, c.place.ensures.around) at c.in_ok-span.ensures in
     array_moves
     g.O.ByteOrder.ordered c.args.self.now c.requires c.alignment_of-alignment.result c.alignment_of-alignment.ensures c.in_ok-span.span l
     c.push.new.self c.push.ensures.items c.if-span.true (omega arith)
 
 pub returns-else-span : goal.returns-else-span
 returns-else-span g c =
-    let l = rw (c.front-area.ensures, c.len.ensures.value) at c.in_ok-span.ensures in
+    let l = rw (c.place.ensures.area, c.place.ensures.at, c.place.ensures.around) at c.in_ok-span.ensures in
     let z = c.past_element-self in
     array_ended
     g.O.ByteOrder.ordered c.args.self.now c.requires c.alignment_of-alignment.result c.alignment_of-alignment.ensures c.in_ok-span.span l

@@ -6,10 +6,10 @@ use Rattle.values.proofs.walk.Walk.basic.Goals as goal
 pub returns-in_err-self : goal.returns-in_err-self
 returns-in_err-self g c =
     let p = err_from_is_err_and c.from_residual.result c.from_residual.ensures.1 in
-    let l = rw (c.front-area.ensures, c.len.ensures.value) at c.in_err-self.ensures in
+    let l = rw (c.place.ensures.area, c.place.ensures.at, c.place.ensures.around) at c.in_err-self.ensures in
     rw (p.1, p.2) (basic_fails g.O.ByteOrder.ordered c.args.self.now c.args.kind c.requires c.in_err-self.field-0.0 l)
 
 pub returns : goal.returns
 returns g c =
-    let l = rw (c.front-area.ensures, c.len.ensures.value) at c.in_ok-self.ensures in
+    let l = rw (c.place.ensures.area, c.place.ensures.at, c.place.ensures.around) at c.in_ok-self.ensures in
     basic_moves g.O.ByteOrder.ordered c.args.self.now c.args.kind c.requires c.in_ok-self.field-0 l (omega arith) (omega arith)

@@ -1,6 +1,6 @@
 use Rattle.std.proofs.Common.{refl, inl, inr}
 use Rattle.std.proofs.lemmas.Result.{err_from_is_err_and}
-use Rattle.items.proofs.read.extent.Goals as goal
+use Rattle.items.proofs.read.Place.extent.Goals as goal
 
 -- the padding that is not zero is that of the elements
 pub returns-in_err-zeros : goal.returns-in_err-zeros
