@@ -16,8 +16,5 @@ pub fn encoded_end<O: ByteOrder>(bytes: &[u8], codes: Span, at: usize, end: usiz
     ensures law { Law }
     ensures examples { Examples }
 {
-    match values::<O>(bytes, codes, at, end) {
-        Ok(ends) => Some(ends),
-        Err(_) => None,
-    }
+    values::<O>(bytes, codes, at, end).ok()
 }

@@ -1,9 +1,9 @@
 -- The values of the fields that were read lie well.
-use Rattle.std.proofs.Common.{◌≡◌, ℕ, ◌+◌, ◌<◌, ◌≤◌, cond, eqb, ◌≢◌, ◌⊎◌, List, [], length, get_or, take, set, IfOk, Some, None, Ok, Option, Result, sym, refl, ap, ◌∙◌, subst, inl, inr, arith, get_or-set_other, get_or-set_same}
-use Rattle.std.proofs.lemmas.List.{set_past}
+use Rattle.std.proofs.Common.{◌≡◌, ℕ, ◌+◌, ◌<◌, ◌≤◌, ◌≢◌, ◌⊎◌, List, [], length, get_or, take, set, IfOk, Some, None, Ok, Option, Result, sym, refl, ap, ◌∙◌, subst, inl, inr, arith, get_or-set_other}
+use Rattle.std.proofs.lemmas.Grind.{get_or-set_at}
+use Rattle.std.proofs.lemmas.List.{set_past, get_or-replicate}
 use Rattle.signature.specs.Codes.{basic_align}
-use Rattle.signature.specs.Trees.{Tree, basic, spell}
-use Rattle.signature.proofs.Spellings.{once}
+use Rattle.signature.specs.Trees.{Tree, spell}
 use Rattle.items.specs.declared.fault.Flaw.{Flaw}
 use Rattle.items.specs.Items.{Item, Leaf, codes_at}
 use Rattle.items.proofs.Once.{ok_inj, never}
@@ -13,61 +13,59 @@ use Rattle.fields.specs.declared.known.Field.TheVariants.{Path, Interface, Membe
 use Rattle.fields.specs.declared.Fields.{Fields}
 use Rattle.fields.specs.Known.{known, field_type, index_of}
 use Rattle.fields.specs.Headers.{place_of, none_yet, Own, start, noted, Proper, Fitting, Valued, AfterCode, AfterPadding, OneField, AllFields, no_more, bad_one, one_more, Padded, Header, Held, Holds}
-use Rattle.fields.proofs.Parts.{kinded_tells, pad_is, leaf_of}
+use Rattle.fields.proofs.Parts.{kinded_tells, pad_is, own_leaf}
 
--- a field is known by its place
-at_index : ℕ → Field
-at_index n =
-    cond (eqb n 0) Path (cond (eqb n 1) Interface (cond (eqb n 2) Member (cond (eqb n 3) ErrorName (cond (eqb n 4) ReplySerial (cond (eqb n 5) Destination (cond (eqb n 6) Sender Signature))))))
+none_some : {A B : Type 0} (x : A) → None ≡ Some x → B
+none_some x e = let z : ◌≡◌ {A = ℕ} 0 1 = cc in absurd (omega arith)
 
-back : (f : Field) → at_index (index_of f) ≡ f
-unfolding at_index
-back Path = refl
-back Interface = refl
-back Member = refl
-back ErrorName = refl
-back ReplySerial = refl
-back Destination = refl
-back Sender = refl
-back Signature = refl
+-- the codes of the fields are those that are known, so a field is known by its place
+known_code : (f : Field) → known (index_of f + 1) ≡ Some f
+known_code Path = refl
+known_code Interface = refl
+known_code Member = refl
+known_code ErrorName = refl
+known_code ReplySerial = refl
+known_code Destination = refl
+known_code Sender = refl
+known_code Signature = refl
+
+some_once : {A : Type 0} (x y : A) → Some x ≡ Some y → x ≡ y
+some_once x y e = cc
 
 index_once : (f g : Field) → index_of f ≡ index_of g → f ≡ g
-index_once f g e = sym (back f) ∙ ap at_index e ∙ back g
+index_once f g e = some_once f g (sym (known_code f) ∙ ap (λ (n : ℕ). known (n + 1)) e ∙ known_code g)
+
+index_below : (f : Field) → index_of f < 8
+index_below Path = omega arith
+index_below Interface = omega arith
+index_below Member = omega arith
+index_below ErrorName = omega arith
+index_below ReplySerial = omega arith
+index_below Destination = omega arith
+index_below Sender = omega arith
+index_below Signature = omega arith
 
 nothing : (f : Field) (p : ℕ) → place_of none_yet.places f ≡ Some p → ⊥
-nothing Path p e = let z : ◌≡◌ {A = ℕ} 0 1 = cc in omega arith
-nothing Interface p e = let z : ◌≡◌ {A = ℕ} 0 1 = cc in omega arith
-nothing Member p e = let z : ◌≡◌ {A = ℕ} 0 1 = cc in omega arith
-nothing ErrorName p e = let z : ◌≡◌ {A = ℕ} 0 1 = cc in omega arith
-nothing ReplySerial p e = let z : ◌≡◌ {A = ℕ} 0 1 = cc in omega arith
-nothing Destination p e = let z : ◌≡◌ {A = ℕ} 0 1 = cc in omega arith
-nothing Sender p e = let z : ◌≡◌ {A = ℕ} 0 1 = cc in omega arith
-nothing Signature p e = let z : ◌≡◌ {A = ℕ} 0 1 = cc in omega arith
-
-some_once : (p q : ℕ) → Some p ≡ Some q → p ≡ q
-some_once p q e = cc
+nothing f p e = none_some p (sym (get_or-replicate 8 (index_of f) None None (index_below f)) ∙ e)
 
 apart : (m n : ℕ) → (m ≡ n) ⊎ (m ≢ n)
 apart m n = grind arith
 
-module _ (ordered : List ℕ → List ℕ) (area : List ℕ) where
-  -- one field more
-  set_holds : (xs : List (Option ℕ)) (g : Field) (v : ℕ) → Held ordered area g v → Holds ordered area xs → (f : Field) (p : ℕ) → (index_of f ≡ index_of g) ⊎ (index_of f ≢ index_of g)
-      → (index_of g < length xs) ⊎ (length xs ≤ index_of g) → get_or (set xs (index_of g) (Some v)) (index_of f) None ≡ Some p → Held ordered area f p
-  set_holds xs g v new old f p (inl same) (inl within) e =
-      let found = get_or-set_same xs (index_of g) (Some v) None within in
-      let here : Some v ≡ Some p = sym found ∙ ap (λ (n : ℕ). get_or (set xs (index_of g) (Some v)) n None) (sym same) ∙ e in
-      subst (λ (h : Field). Held ordered area h p) (sym (index_once f g same)) (subst (λ (n : ℕ). Held ordered area g n) (some_once v p here) new)
-  set_holds xs g v new old f p (inl same) (inr past) e = old f p (ap (λ (ys : List (Option ℕ)). get_or ys (index_of f) None) (sym (set_past xs (index_of g) (Some v) past)) ∙ e)
-  set_holds xs g v new old f p (inr other) w e = old f p (sym (get_or-set_other xs (index_of g) (index_of f) (Some v) None other) ∙ e)
-
 within_or_past : (m n : ℕ) → (m < n) ⊎ (n ≤ m)
 within_or_past m n = grind arith
 
-module _ (ordered : List ℕ → List ℕ) (area : List ℕ) where
-  noted_holds : (s : Fields) (o : Option Field) (p q : ℕ) → ((g : Field) → o ≡ Some g → Held ordered area g (start o p)) → Holds ordered area s.places → Holds ordered area (noted s o p q).places
-  noted_holds s None p q new old = old
-  noted_holds s (Some g) p q new old = λ f z e. set_holds ordered area s.places g (start (Some g) p) (new g refl) old f z (apart (index_of f) (index_of g)) (within_or_past (index_of g) (length s.places)) e
+-- one field more
+module _ (ordered : List ℕ → List ℕ) (area : List ℕ) (xs : List (Option ℕ)) (g : Field) (v : ℕ) (new : Held ordered area g v) (old : Holds ordered area xs) where
+  set_holds_by : (f : Field) (p : ℕ) → (index_of f ≡ index_of g) ⊎ (index_of f ≢ index_of g) → (index_of g < length xs) ⊎ (length xs ≤ index_of g) → get_or (set xs (index_of g) (Some v)) (index_of f) None ≡ Some p
+      → Held ordered area f p
+  set_holds_by f p (inl same) (inl within) e =
+      let found = get_or-set_at xs (index_of g) (index_of f) (Some v) None same within in
+      subst (λ (h : Field). Held ordered area h p) (sym (index_once f g same)) (subst (λ (n : ℕ). Held ordered area g n) (some_once v p (sym found ∙ e)) new)
+  set_holds_by f p (inl same) (inr past) e = old f p (ap (λ (ys : List (Option ℕ)). get_or ys (index_of f) None) (sym (set_past xs (index_of g) (Some v) past)) ∙ e)
+  set_holds_by f p (inr other) w e = old f p (sym (get_or-set_other xs (index_of g) (index_of f) (Some v) None other) ∙ e)
+
+  set_holds : Holds ordered area (set xs (index_of g) (Some v))
+  set_holds f p e = set_holds_by f p (apart (index_of f) (index_of g)) (within_or_past (index_of g) (length xs)) e
 
 -- a value of a field's own type, and proper
 module _ (ordered : List ℕ → List ℕ) (bytes : List ℕ) (end : ℕ) where
@@ -79,29 +77,27 @@ module _ (ordered : List ℕ → List ℕ) (bytes : List ℕ) (end : ℕ) where
   }
   leaf_held g p q (inr h) proper = never q h.0 h.2
 
-  held_by : (c p q k : ℕ) (type : Tree) → spell type [] ≡ codes_at (take end bytes) k → Own (known c) (codes_at (take end bytes) k) → Value ordered bytes 0 end type p (Ok q)
-      → (o : Option Field) → known c ≡ o → Proper ordered (take end bytes) o (start o p) → (g : Field) → o ≡ Some g → Held ordered (take end bytes) g (start o p)
-  held_by c p q k type spells own v None e proper g eg = let z : ◌≡◌ {A = ℕ} 0 1 = cc in absurd (omega arith)
-  held_by c p q k type spells own v (Some f) e proper g eg =
-      let same : f ≡ g = cc in
-      let mine = subst (λ (o : Option Field). Own o (codes_at (take end bytes) k)) e own in
-      let t = (once type (basic (field_type f)) [] [] (spells ∙ mine)).0 in
-      let held = leaf_held f p q (leaf_of (subst (λ (x : Tree). Value ordered bytes 0 end x p (Ok q)) t v)) proper in
-      subst (λ (h : Field). Held ordered (take end bytes) h (start (Some f) p)) same held
-
   module _ (s t : Fields) (old : Holds ordered (take end bytes) s.places) where
-    fitting_holds : (c p q k : ℕ) (type : Tree) → spell type [] ≡ codes_at (take end bytes) k → Own (known c) (codes_at (take end bytes) k) → Value ordered bytes 0 end type p (Ok q) → Fitting ordered (take end bytes) s c p q (Ok t) → Holds ordered (take end bytes) t.places
-    fitting_holds c p q k type spells own v (inl h) =
-        subst (λ (x : Fields). Holds ordered (take end bytes) x.places) (sym (ok_inj t (noted s (known c) p q) h.1))
-        (noted_holds ordered (take end bytes) s (known c) p q (λ g e. held_by c p q k type spells own v (known c) refl h.0 g e) old)
-    fitting_holds c p q k type spells own v (inr h) = never t _ h.1
+    noted_holds : (o : Option Field) (p q : ℕ) → t ≡ noted s o p q → ((g : Field) → o ≡ Some g → Held ordered (take end bytes) g p) → Holds ordered (take end bytes) t.places
+    noted_holds None p q same new = subst (λ (x : Fields). Holds ordered (take end bytes) x.places) (sym same) old
+    noted_holds (Some g) p q same new =
+        subst (λ (x : Fields). Holds ordered (take end bytes) x.places) (sym same) (set_holds ordered (take end bytes) s.places g p (new g refl) old)
 
-    valued_holds : (c k p : ℕ) → Own (known c) (codes_at (take end bytes) k) → Valued ordered bytes end s c k p (Ok t) → Holds ordered (take end bytes) t.places
-    valued_holds c k p own (type, spells, inl h) = fitting_holds c p h.0 k type spells own h.1 h.2
-    valued_holds c k p own (type, spells, inr h) = never t h.0 h.2
+    fitting_holds : (o : Option Field) (codes : List ℕ) (type : Tree) (p q : ℕ) → spell type [] ≡ codes → Own o codes → Value ordered bytes 0 end type p (Ok q) → Fitting ordered (take end bytes) s o (start o p) q (Ok t)
+        → Holds ordered (take end bytes) t.places
+    fitting_holds None codes type p q spells own v (inl h) = noted_holds None p q (ok_inj t _ h.1) (λ g e. none_some g e)
+    fitting_holds (Some f) codes type p q spells own v (inl h) =
+        let held = leaf_held f p q (own_leaf f codes type spells own v) h.0 in
+        noted_holds (Some f) (start (Some f) p) q (ok_inj t _ h.1) (λ g e. subst (λ (x : Field). Held ordered (take end bytes) x (start (Some f) p)) (some_once f g e) held)
+    fitting_holds None codes type p q spells own v (inr h) = never t _ h.1
+    fitting_holds (Some f) codes type p q spells own v (inr h) = never t _ h.1
+
+    valued_holds : (o : Option Field) (k p : ℕ) → Own o (codes_at (take end bytes) k) → Valued ordered bytes end s o k p (Ok t) → Holds ordered (take end bytes) t.places
+    valued_holds o k p own (type, spells, inl h) = fitting_holds o (codes_at (take end bytes) k) type p h.0 spells own h.1 h.2
+    valued_holds o k p own (type, spells, inr h) = never t h.0 h.2
 
     after_code_holds : (p c : ℕ) → AfterCode ordered bytes end s p c (Ok t) → Holds ordered (take end bytes) t.places
-    after_code_holds p c (inl h) = valued_holds c p h.0 (kinded_tells (take end bytes) c p h.0 h.1).1 h.2
+    after_code_holds p c (inl h) = valued_holds (known c) p h.0 (kinded_tells (take end bytes) (known c) p h.0 h.1).1 h.2
     after_code_holds p c (inr h) = never t h.0 h.2
 
     after_padding_holds : (p : ℕ) → AfterPadding ordered bytes end s p (Ok t) → Holds ordered (take end bytes) t.places

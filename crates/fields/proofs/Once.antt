@@ -1,5 +1,5 @@
 -- Fields come to one result.
-use Rattle.std.proofs.Common.{◌≡◌, ℕ, ◌+◌, List, [], get_or, take, Ok, Err, Result, sym, refl, ap, ◌∙◌, subst, arith}
+use Rattle.std.proofs.Common.{◌≡◌, ℕ, ◌+◌, List, [], get_or, take, Ok, Err, Option, Result, sym, refl, ap, ◌∙◌, subst, arith}
 use Rattle.signature.specs.declared.codes.Alignment.TheVariants.{Eight}
 use Rattle.signature.specs.Trees.{Tree}
 use Rattle.signature.proofs.Spellings.{once}
@@ -9,27 +9,28 @@ use Rattle.items.proofs.Once.{One, is_one, provided_one, then_one, ok_inj, never
 use Rattle.values.specs.Values.{Value}
 use Rattle.values.proofs.Once.{value_one}
 use Rattle.fields.specs.declared.Fields.{Fields}
+use Rattle.fields.specs.declared.known.Field.{Field}
 use Rattle.fields.specs.Known.{known}
-use Rattle.fields.specs.Headers.{noted, Kinded, Fitting, Valued, OneField, AllFields, no_more, bad_one, one_more, Header}
+use Rattle.fields.specs.Headers.{start, noted, Kinded, Fitting, Valued, OneField, AllFields, no_more, bad_one, one_more, Header}
 
 module _ (ordered : List ℕ → List ℕ) (bytes : List ℕ) (end : ℕ) where
-  kinded_one : (c p : ℕ) → One (Kinded (take end bytes) c p)
-  kinded_one c p = then_one (typed_one (take end bytes) 0 p) (λ q. provided_one (is_one q))
+  kinded_one : (o : Option Field) (p : ℕ) → One (Kinded (take end bytes) o p)
+  kinded_one o p = then_one (typed_one (take end bytes) 0 p) (λ q. provided_one (is_one q))
 
-  fitting_one : (s : Fields) (c p q : ℕ) → One (Fitting ordered (take end bytes) s c p q)
-  fitting_one s c p q = provided_one (is_one (noted s (known c) p q))
+  fitting_one : (s : Fields) (o : Option Field) (p q : ℕ) → One (Fitting ordered (take end bytes) s o p q)
+  fitting_one s o p q = provided_one (is_one (noted s o p q))
 
-  content_one : (s : Fields) (c p : ℕ) (t : Tree) → One (Then (Value ordered bytes 0 end t p) (Fitting ordered (take end bytes) s c p))
-  content_one s c p t = then_one (λ r q h k. value_one ordered bytes h q k) (λ q. fitting_one s c p q)
+  content_one : (s : Fields) (o : Option Field) (p : ℕ) (t : Tree) → One (Then (Value ordered bytes 0 end t p) (Fitting ordered (take end bytes) s o (start o p)))
+  content_one s o p t = then_one (λ r q h k. value_one ordered bytes h q k) (λ q. fitting_one s o (start o p) q)
 
-  valued_one : (s : Fields) (c k p : ℕ) → One (Valued ordered bytes end s c k p)
-  valued_one s c k p r q (t, ts, h) (u, us, g) =
-      content_one s c p t r q h (subst (λ (x : Tree). Then (Value ordered bytes 0 end x p) (Fitting ordered (take end bytes) s c p) q) (sym (once t u [] [] (ts ∙ sym us)).0) g)
+  valued_one : (s : Fields) (o : Option Field) (k p : ℕ) → One (Valued ordered bytes end s o k p)
+  valued_one s o k p r q (t, ts, h) (u, us, g) =
+      content_one s o p t r q h (subst (λ (x : Tree). Then (Value ordered bytes 0 end x p) (Fitting ordered (take end bytes) s o (start o p)) q) (sym (once t u [] [] (ts ∙ sym us)).0) g)
 
   one_once : (s : Fields) → One (OneField ordered bytes end s)
   one_once s =
       then_one (pad_one (take end bytes) Eight s.at)
-      (λ p. then_one (provided_one (provided_one (is_one (get_or (take end bytes) p 0)))) (λ c. then_one (kinded_one c (p + 1)) (λ q. valued_one s c (p + 1) q)))
+      (λ p. then_one (provided_one (provided_one (is_one (get_or (take end bytes) p 0)))) (λ c. then_one (kinded_one (known c) (p + 1)) (λ q. valued_one s (known c) (p + 1) q)))
 
   all_once : {s : Fields} {r : Result Fields Flaw} → AllFields ordered bytes end s r → (q : Result Fields Flaw) → AllFields ordered bytes end s q → r ≡ q
   all_once (no_more l) q (no_more m) = refl

@@ -9,6 +9,7 @@ use Rattle.items.specs.declared.fault.Cause.TheVariants as cause
 use Rattle.items.specs.Faults.{Is, Provided, Then}
 use Rattle.items.specs.Items.{aligned, Pad, Typed, Item, codes_at, number_at, text_at}
 use Rattle.values.specs.Values.{Value}
+use Rattle.frame.specs.declared.TheConstants.{FRAME_SIZE}
 use Rattle.fields.specs.declared.known.Field.{Field}
 use Rattle.fields.specs.declared.known.Field.TheVariants.{Path, Interface, Member, ErrorName, ReplySerial, Destination, Sender, Signature}
 use Rattle.fields.specs.declared.Fields.{Fields}
@@ -20,7 +21,7 @@ place_of places f = slice_index_or places (index_of f) None
 
 -- before the first field
 abbrev pub none_yet : Fields
-none_yet = record { places = replicate 8 None; at = 16 }
+none_yet = record { places = replicate 8 None; at = FRAME_SIZE }
 
 -- a code that may stand here: an unknown one but 0 and 9, or a known one that was not read yet
 abbrev pub Free : List (Option ℕ) → ℕ → Option Field → Type 0
@@ -37,10 +38,10 @@ abbrev pub start : Option Field → ℕ → ℕ
 start None p = p
 start (Some f) p = aligned (step (basic_align (field_type f))) p
 
--- the field of a code was read, its value from p on and up to q
+-- a field was read, its value from p on and up to q
 abbrev pub noted : Fields → Option Field → ℕ → ℕ → Fields
 noted s None p q = record { places = s.places; at = q }
-noted s (Some f) p q = record { places = slice_set s.places (index_of f) (Some (start (Some f) p)); at = q }
+noted s (Some f) p q = record { places = slice_set s.places (index_of f) (Some p); at = q }
 
 -- `area` is the message up to the end of the fields
 module _ (area : List ℕ) where
@@ -48,12 +49,12 @@ module _ (area : List ℕ) where
   abbrev pub Coded : Fields → ℕ → Result ℕ Flaw → Type 0
   Coded s p = Provided (p + 1 ≤ length area) cause.PastEnd p (Provided (Free s.places (slice_index area p) (known (slice_index area p))) cause.Field p (Is (slice_index area p)))
 
-  -- the type at p of a field with this code, which ends at q
-  abbrev pub Owned : ℕ → ℕ → ℕ → Result ℕ Flaw → Type 0
-  Owned c p q = Provided (Own (known c) (codes_at area p)) cause.Field p (Is q)
+  -- the type at p of a field, which ends at q
+  abbrev pub Owned : Option Field → ℕ → ℕ → Result ℕ Flaw → Type 0
+  Owned o p q = Provided (Own o (codes_at area p)) cause.Field p (Is q)
 
-  abbrev pub Kinded : ℕ → ℕ → Result ℕ Flaw → Type 0
-  Kinded c p = Then (Typed area 0 p) (Owned c p)
+  abbrev pub Kinded : Option Field → ℕ → Result ℕ Flaw → Type 0
+  Kinded o p = Then (Typed area 0 p) (Owned o p)
 
 module _ (ordered : List ℕ → List ℕ) (area : List ℕ) where
   -- the value of a known field that begins at p is a name as the field asks, or a serial
@@ -68,18 +69,18 @@ module _ (ordered : List ℕ → List ℕ) (area : List ℕ) where
   Proper (Some Sender) p = names.IsBusName (text_at area ordered p)
   Proper (Some Signature) p = Unit {0}
 
-  -- the value at p, which ends at q
-  abbrev pub Fitting : Fields → ℕ → ℕ → ℕ → Result Fields Flaw → Type 0
-  Fitting s c p q = Provided (Proper (known c) (start (known c) p)) cause.Name (start (known c) p) (Is (noted s (known c) p q))
+  -- the value at p of a field, which ends at q
+  abbrev pub Fitting : Fields → Option Field → ℕ → ℕ → Result Fields Flaw → Type 0
+  Fitting s o p q = Provided (Proper o p) cause.Name p (Is (noted s o p q))
 
 module _ (ordered : List ℕ → List ℕ) (bytes : List ℕ) (end : ℕ) where
-  -- a value at p of the type that stands at t
-  abbrev pub Valued : Fields → ℕ → ℕ → ℕ → Result Fields Flaw → Type 0
-  Valued s c t p r =
-      (type : Tree) × (spell type [] ≡ codes_at (take end bytes) t) × Then (Value ordered bytes 0 end type p) (Fitting ordered (take end bytes) s c p) r
+  -- a value of the type that stands at t, its padding from p on
+  abbrev pub Valued : Fields → Option Field → ℕ → ℕ → Result Fields Flaw → Type 0
+  Valued s o t p r =
+      (type : Tree) × (spell type [] ≡ codes_at (take end bytes) t) × Then (Value ordered bytes 0 end type p) (Fitting ordered (take end bytes) s o (start o p)) r
 
   abbrev pub AfterCode : Fields → ℕ → ℕ → Result Fields Flaw → Type 0
-  AfterCode s p c = Then (Kinded (take end bytes) c p) (Valued s c p)
+  AfterCode s p c = Then (Kinded (take end bytes) (known c) p) (Valued s (known c) p)
 
   abbrev pub AfterPadding : Fields → ℕ → Result Fields Flaw → Type 0
   AfterPadding s p = Then (Coded (take end bytes) s p) (AfterCode s (p + 1))
@@ -104,7 +105,7 @@ Padded bytes end s = Then (Pad bytes Eight end) (Closed s)
 -- the fields of a message, which end at `end`
 abbrev pub Header : (List ℕ → List ℕ) → List ℕ → ℕ → Result Fields Flaw → Type 0
 Header ordered bytes end =
-    Provided ((16 ≤ end) × (end ≤ length bytes)) cause.PastEnd 16 (Then (AllFields ordered bytes end none_yet) (Padded bytes end))
+    Provided ((FRAME_SIZE ≤ end) × (end ≤ length bytes)) cause.PastEnd FRAME_SIZE (Then (AllFields ordered bytes end none_yet) (Padded bytes end))
 
 -- what the header has made sure of: the value of a known field lies well at p, and is as its field asks
 pub record Held (ordered : List ℕ → List ℕ) (area : List ℕ) (f : Field) (p : ℕ) : Type 0 where

@@ -1,16 +1,16 @@
 -- Which values of fields begin with a number of 32 bits.
-use Rattle.std.specs.Prelude.{ℕ, ◌+◌, ◌≤◌, Some, None, Option}
+use Rattle.std.specs.Prelude.{Bool, true, false, Some, None, Option}
 use Rattle.fields.specs.declared.known.Field.{Field}
 use Rattle.fields.specs.declared.known.Field.TheVariants.{Path, Interface, Member, ErrorName, ReplySerial, Destination, Sender, Signature}
 
--- a name or a serial that begins at p has its first four bytes among so many
-abbrev pub Wordy : ℕ → Option Field → ℕ → Type 0
-Wordy len None p = Unit {0}
-Wordy len (Some Path) p = Unit {0}
-Wordy len (Some Interface) p = p + 4 ≤ len
-Wordy len (Some Member) p = p + 4 ≤ len
-Wordy len (Some ErrorName) p = p + 4 ≤ len
-Wordy len (Some ReplySerial) p = p + 4 ≤ len
-Wordy len (Some Destination) p = p + 4 ≤ len
-Wordy len (Some Sender) p = p + 4 ≤ len
-Wordy len (Some Signature) p = Unit {0}
+-- a name begins with its length, and a serial is such a number
+abbrev pub has_word : Option Field → Bool
+has_word None = false
+has_word (Some Path) = false
+has_word (Some Interface) = true
+has_word (Some Member) = true
+has_word (Some ErrorName) = true
+has_word (Some ReplySerial) = true
+has_word (Some Destination) = true
+has_word (Some Sender) = true
+has_word (Some Signature) = false

@@ -1,36 +1,43 @@
 // The fields that are known.
 ghost use Rattle.std.specs.Prelude.{◌≡◌, ◌<◌};
-ghost use Rattle.fields.specs.Known.{known, field_type, index_of};
+ghost use Rattle.fields.specs.Known.{Codes, field_type, index_of};
 
 use signature::Basic;
 
-// A known field of a message's header.
+// A known field of a message's header, with its code.
 #[derive(Clone, Copy, PartialEq, Eq, Debug)]
 pub enum Field {
-    Path,
-    Interface,
-    Member,
-    ErrorName,
-    ReplySerial,
-    Destination,
-    Sender,
-    Signature,
+    Path = 1,
+    Interface = 2,
+    Member = 3,
+    ErrorName = 4,
+    ReplySerial = 5,
+    Destination = 6,
+    Sender = 7,
+    Signature = 8,
 }
 
-// The field of a code, if it is a known one.
-pub fn field_of(code: u8) -> Option<Field>
-    ensures { result ≡ known code }
-{
-    match code {
-        1 => Some(Field::Path),
-        2 => Some(Field::Interface),
-        3 => Some(Field::Member),
-        4 => Some(Field::ErrorName),
-        5 => Some(Field::ReplySerial),
-        6 => Some(Field::Destination),
-        7 => Some(Field::Sender),
-        8 => Some(Field::Signature),
-        _ => None,
+// A code that no known field has.
+#[derive(Clone, Copy, PartialEq, Eq, Debug)]
+pub struct UnknownField;
+
+impl TryFrom<u8> for Field {
+    type Error = UnknownField;
+
+    ghost try_from_gives = { Codes };
+
+    fn try_from(code: u8) -> Result<Field, UnknownField> {
+        match code {
+            1 => Ok(Field::Path),
+            2 => Ok(Field::Interface),
+            3 => Ok(Field::Member),
+            4 => Ok(Field::ErrorName),
+            5 => Ok(Field::ReplySerial),
+            6 => Ok(Field::Destination),
+            7 => Ok(Field::Sender),
+            8 => Ok(Field::Signature),
+            _ => Err(UnknownField),
+        }
     }
 }
 
@@ -56,15 +63,6 @@ impl Field {
         ensures value { result ≡ index_of self }
         ensures bound { result < 8 }
     {
-        match self {
-            Field::Path => 0,
-            Field::Interface => 1,
-            Field::Member => 2,
-            Field::ErrorName => 3,
-            Field::ReplySerial => 4,
-            Field::Destination => 5,
-            Field::Sender => 6,
-            Field::Signature => 7,
-        }
+        self as usize - 1
     }
 }

@@ -4,7 +4,7 @@
 pub mod known;
 mod read;
 
-pub use known::{Field, field_of};
+pub use known::{Field, UnknownField};
 pub use read::read_fields;
 
 // What was read of the fields: where the value of each known one begins, and where the next field stands.

@@ -1,5 +1,6 @@
 -- The first 16 bytes of a message, one by one.
 use Rattle.std.specs.Prelude.{◌≡◌, ℕ, ◌+◌, ◌≤◌, List, [], ◌∷◌, length, slice_index}
+use Rattle.frame.specs.declared.TheConstants.{FRAME_SIZE}
 use Rattle.frame.specs.declared.read.First.{First}
 
 -- four bytes from p on
@@ -7,7 +8,7 @@ abbrev pub four : List ℕ → ℕ → List ℕ
 four bytes p = slice_index bytes p ∷ slice_index bytes (p + 1) ∷ slice_index bytes (p + 2) ∷ slice_index bytes (p + 3) ∷ []
 
 pub record FirstOf (bytes : List ℕ) (x : First) : Type 0 where
-  pub long : 16 ≤ length bytes
+  pub long : FRAME_SIZE ≤ length bytes
   pub mark : x.mark ≡ slice_index bytes 0
   pub kind : x.kind ≡ slice_index bytes 1
   pub flags : x.flags ≡ slice_index bytes 2

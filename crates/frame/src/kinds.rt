@@ -1,7 +1,7 @@
 // The byte order and the type of a message.
-ghost use Rattle.std.specs.Prelude.{◌≡◌, MatchOption, ◌≢◌};
+ghost use Rattle.std.specs.Prelude.{◌≡◌};
 ghost use Rattle.order.specs.Numbers.{number};
-ghost use Rattle.frame.specs.Kinds.{mark, ordered, kind_at};
+ghost use Rattle.frame.specs.Kinds.{Marks, ordered, Numbers};
 
 use order::{Big, ByteOrder, Little};
 
@@ -11,6 +11,10 @@ pub enum Order {
     Little,
     Big,
 }
+
+// A byte that is the mark of no order.
+#[derive(Clone, Copy, PartialEq, Eq, Debug)]
+pub struct NoOrder;
 
 // The type of a message.
 #[derive(Clone, Copy, PartialEq, Eq, Debug)]
@@ -23,28 +27,21 @@ pub enum Kind {
     Other(u8),
 }
 
-// The order of a mark, `l` or `B`.
-pub fn order_of(byte: u8) -> Option<Order>
-    ensures { MatchOption result ((o : Order) → mark o ≢ byte) (λ o. mark o ≡ byte) }
-{
-    match byte {
-        b'l' => Some(Order::Little),
-        b'B' => Some(Order::Big),
-        _ => None,
-    }
-}
+// The number 0, which no type has.
+#[derive(Clone, Copy, PartialEq, Eq, Debug)]
+pub struct NoKind;
 
-// The type of a number, if it is not 0.
-pub fn kind_of(byte: u8) -> Option<Kind>
-    ensures { MatchOption result (byte ≡ 0) (λ k. (byte ≢ 0) × (k ≡ kind_at byte)) }
-{
-    match byte {
-        0 => None,
-        1 => Some(Kind::Call),
-        2 => Some(Kind::Return),
-        3 => Some(Kind::Error),
-        4 => Some(Kind::Signal),
-        other => Some(Kind::Other(other)),
+impl TryFrom<u8> for Order {
+    type Error = NoOrder;
+
+    ghost try_from_gives = { Marks };
+
+    fn try_from(mark: u8) -> Result<Order, NoOrder> {
+        match mark {
+            b'l' => Ok(Order::Little),
+            b'B' => Ok(Order::Big),
+            _ => Err(NoOrder),
+        }
     }
 }
 
@@ -56,6 +53,23 @@ impl Order {
         match self {
             Order::Little => Little::u32_of(bytes),
             Order::Big => Big::u32_of(bytes),
+        }
+    }
+}
+
+impl TryFrom<u8> for Kind {
+    type Error = NoKind;
+
+    ghost try_from_gives = { Numbers };
+
+    fn try_from(number: u8) -> Result<Kind, NoKind> {
+        match number {
+            0 => Err(NoKind),
+            1 => Ok(Kind::Call),
+            2 => Ok(Kind::Return),
+            3 => Ok(Kind::Error),
+            4 => Ok(Kind::Signal),
+            other => Ok(Kind::Other(other)),
         }
     }
 }

@@ -4,8 +4,11 @@
 pub mod kinds;
 mod read;
 
-pub use kinds::{Kind, Order, kind_of, order_of};
+pub use kinds::{Kind, NoKind, NoOrder, Order};
 pub use read::read_frame;
+
+// How many bytes a frame takes. The fields begin behind them.
+pub const FRAME_SIZE: usize = 16;
 
 // What the first 16 bytes of a message say. Lengths are in bytes.
 #[derive(Clone, Copy)]

@@ -4,15 +4,12 @@ use crate::reader::Reader;
 use crate::value::{LEVELS, Shown};
 use crate::words::{InWords, Plain};
 use fields::{Field, Fields};
-use frame::{Frame, Order};
+use frame::{FRAME_SIZE, Frame, Order};
 use message::Layout;
 use order::{Big, ByteOrder, Little};
 use signature::{Alignment, Basic};
 use std::alloc::{AllocError, Global};
 use std::fmt;
-
-// Where the fields begin.
-const START: usize = 16;
 
 // The known fields, as they come one after the other.
 const KNOWN: [Field; 8] = [
@@ -119,7 +116,7 @@ impl<O: ByteOrder> Shown<'_, O> {
 fn ordered<O: ByteOrder>(heap: Global, bytes: &[u8], layout: Layout) -> Result<String, Failure> {
     let Layout { frame, fields } = layout;
     let mut shown = Shown {
-        reader: Reader::<O>::new(bytes, START),
+        reader: Reader::<O>::new(bytes, FRAME_SIZE),
         text: framed(heap, frame, bytes.len())?,
     };
     for field in KNOWN {
@@ -127,7 +124,7 @@ fn ordered<O: ByteOrder>(heap: Global, bytes: &[u8], layout: Layout) -> Result<S
             shown.known_field(field, at)?;
         }
     }
-    shown.unknown_fields(START + frame.fields as usize)?;
+    shown.unknown_fields(FRAME_SIZE + frame.fields as usize)?;
     shown.reader.pad(Alignment::Eight);
     shown.body(fields)?;
     Ok(shown.text)

@@ -1,8 +1,10 @@
 // A message, read from bytes.
 #![tactic(auto)]
 
+mod checked;
 mod reading;
 
+pub use checked::{Message, check};
 use fields::Fields;
 use frame::Frame;
 pub use reading::read;

@@ -3,103 +3,77 @@ ghost use Rattle.std.specs.Prelude.{◌≡◌, ℕ, ◌+◌, ◌<◌, ◌≤◌,
 ghost use Rattle.frame.specs.Frames.{body_start};
 ghost use Rattle.fields.specs.declared.known.Field.TheVariants.{Signature as Types};
 ghost use Rattle.fields.specs.Headers.{place_of};
-ghost use Rattle.message.specs.Messages.{placed, codes_of, Has, Complete, Contents, Whole, Filled, AfterFrame, Reading, Decided};
+ghost use Rattle.message.specs.Messages.{placed, codes_of, needed, Has, Complete, Contents, AfterFrame, Reading, Decided};
 
 use crate::Layout;
-use fields::{Field, Fields, read_fields};
-use frame::{Frame, Kind, Order, read_frame};
+use fields::{Field, read_fields};
+use frame::{FRAME_SIZE, Frame, Kind, Order, read_frame};
 use items::{Cause, Fault, Flaw, Part, Span, gap};
 use order::{Big, ByteOrder, Little};
 use signature::Alignment;
 use values::values;
 
-// Where the fields begin.
-const START: usize = 16;
-
 // A flaw in a part of the message is a fault.
 fn within<T>(part: Part, res: Result<T, Flaw>) -> Result<T, Fault>
     ensures { result ≡ placed part res }
 {
-    match res {
-        Ok(value) => Ok(value),
-        Err(flaw) => Err(Fault {
-            part,
-            cause: flaw.cause,
-            byte: flaw.byte,
-        }),
-    }
+    res.map_err(|flaw| Fault {
+        part,
+        cause: flaw.cause,
+        byte: flaw.byte,
+    })
 }
 
-// The codes of the body's types: those of the signature that begins at a place, none where there is none.
-fn codes(bytes: &[u8], place: Option<usize>) -> Span
-    requires { (p : ℕ) → place ≡ Given p → p < length bytes.now }
-    ensures { result ≡ codes_of bytes.now place }
-{
-    match place {
-        Some(at) => Span {
-            from: at + 1,
-            to: at + 1 + bytes[at] as usize,
-        },
-        None => Span { from: 0, to: 0 },
-    }
-}
-
-fn has(fields: Fields, field: Field) -> bool
-    ensures { Decides result (Has fields.places field) }
-{
-    fields.place(field).is_some()
-}
-
-// Whether a message of this type has the fields that it needs.
-fn is_complete(kind: Kind, fields: Fields) -> bool
-    ensures { Decides result (Complete kind fields.places) }
+// The fields that a message of this type needs.
+fn needed(kind: Kind) -> &'static [Field]
+    ensures { result.now ≡ needed kind }
 {
     match kind {
-        Kind::Call => has(fields, Field::Path) && has(fields, Field::Member),
-        Kind::Return => has(fields, Field::ReplySerial),
-        Kind::Error => has(fields, Field::ErrorName) && has(fields, Field::ReplySerial),
-        Kind::Signal => {
-            has(fields, Field::Path) && has(fields, Field::Interface) && has(fields, Field::Member)
+        Kind::Call => &[Field::Path, Field::Member],
+        Kind::Return => &[Field::ReplySerial],
+        Kind::Error => &[Field::ErrorName, Field::ReplySerial],
+        Kind::Signal => &[Field::Path, Field::Interface, Field::Member],
+        Kind::Other(_) => &[],
+    }
+}
+
+impl Layout {
+    fn has(&self, field: Field) -> bool
+        ensures { Decides result (Has self.now.fields.places field) }
+    {
+        self.fields.place(field).is_some()
+    }
+
+    // Whether the message has the fields that it needs.
+    fn is_complete(&self) -> bool
+        ensures { Decides result (Complete self.now.frame.kind self.now.fields.places) }
+    {
+        needed(self.frame.kind).iter().all(|field| self.has(*field))
+    }
+
+    // The codes of the body's types: those of the signature field, none where there is no such field.
+    fn codes(&self, bytes: &[u8]) -> Span
+        requires { (p : ℕ) → place_of self.now.fields.places Types ≡ Given p → p < length bytes.now }
+        ensures { result ≡ codes_of bytes.now (place_of self.now.fields.places Types) }
+    {
+        match self.fields.place(Field::Signature) {
+            Some(at) => Span {
+                from: at + 1,
+                to: at + 1 + bytes[at] as usize,
+            },
+            None => Span { from: 0, to: 0 },
         }
-        Kind::Other(_) => true,
     }
-}
 
-// Where the values of the body end.
-fn contents<O: ByteOrder>(bytes: &[u8], frame: Frame, fields: Fields) -> Result<usize, Flaw>
-    requires { (p : ℕ) → place_of fields.places Types ≡ Given p → p < length bytes.now }
-    ensures { Contents O.ByteOrder.ordered bytes.now frame fields result }
-{
-    let end = START + frame.fields as usize;
-    let start = end + gap(end, Alignment::Eight);
-    let types = codes(bytes, fields.place(Field::Signature));
-    values::<O>(bytes, types, start, bytes.len())
-}
-
-// After all items: no needed field is missing.
-fn whole(frame: Frame, fields: Fields, end: usize) -> Result<usize, Flaw>
-    ensures { Whole frame fields end result }
-{
-    if !is_complete(frame.kind, fields) {
-        return Err(Flaw {
-            cause: Cause::MissingField,
-            byte: START,
-        });
+    // Where the values of the body end.
+    fn contents<O: ByteOrder>(&self, bytes: &[u8]) -> Result<usize, Flaw>
+        requires { (p : ℕ) → place_of self.now.fields.places Types ≡ Given p → p < length bytes.now }
+        ensures { Contents O.ByteOrder.ordered bytes.now self.now.frame self.now.fields result }
+    {
+        let end = FRAME_SIZE + self.frame.fields as usize;
+        let start = end + gap(end, Alignment::Eight);
+        values::<O>(bytes, self.codes(bytes), start, bytes.len())
     }
-    Ok(end)
-}
-
-// After that: nothing is left over behind the values.
-fn filled(bytes: &[u8], frame: Frame, fields: Fields, end: usize) -> Result<Layout, Flaw>
-    ensures { Filled bytes.now frame fields end result }
-{
-    if end != bytes.len() {
-        return Err(Flaw {
-            cause: Cause::LeftOver,
-            byte: end,
-        });
-    }
-    Ok(Layout { frame, fields })
 }
 
 // The fields and the body behind a frame.
@@ -108,11 +82,25 @@ fn behind<O: ByteOrder>(bytes: &[u8], frame: Frame) -> Result<Layout, Fault>
 {
     let fields = within(
         Part::Fields,
-        read_fields::<O>(bytes, START + frame.fields as usize),
+        read_fields::<O>(bytes, FRAME_SIZE + frame.fields as usize),
     )?;
-    let end = within(Part::Body, contents::<O>(bytes, frame, fields))?;
-    let whole_end = within(Part::Fields, whole(frame, fields, end))?;
-    within(Part::Body, filled(bytes, frame, fields, whole_end))
+    let layout = Layout { frame, fields };
+    let end = within(Part::Body, layout.contents::<O>(bytes))?;
+    if !layout.is_complete() {
+        return Err(Fault {
+            part: Part::Fields,
+            cause: Cause::MissingField,
+            byte: FRAME_SIZE,
+        });
+    }
+    if end != bytes.len() {
+        return Err(Fault {
+            part: Part::Body,
+            cause: Cause::LeftOver,
+            byte: end,
+        });
+    }
+    Ok(layout)
 }
 
 // Where the parts of a message lie that may have so many bytes; or its one fault.

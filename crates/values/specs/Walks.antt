@@ -1,10 +1,14 @@
 -- What a walk that stands somewhere in the values still owes.
-use Rattle.std.specs.Prelude.{◌≡◌, ℕ, ◌+◌, ◌-◌, ◌*◌, ◌^◌, ◌≤◌, Bool, true, false, cond, ◌⊎◌, List, ◌∷◌, length, drop, Ok, Err, MatchBool, Result, MatchResult, slice_index_or}
+use Rattle.std.specs.Prelude.{◌≡◌, ℕ, ◌+◌, ◌-◌, ◌*◌, ◌^◌, ◌<◌, ◌≤◌, ◌⊎◌, List, [], ◌∷◌, ◌++◌, length, drop, Err, Option, Result, MatchResult, slice_get, slice_index}
+use Rattle.signature.specs.declared.codes.Head.{Head}
+use Rattle.signature.specs.Codes.{head_code}
 use Rattle.signature.specs.Trees.{Element, Trees, spell_element, spell_all}
 use Rattle.items.specs.declared.fault.Flaw.{Flaw}
 use Rattle.items.specs.Faults.{Then}
 use Rattle.values.specs.declared.walk.Frame.{Frame}
 use Rattle.values.specs.declared.walk.Frame.TheVariants.{Struct, Array, Variant}
+use Rattle.values.specs.declared.walk.Stands.{Stands}
+use Rattle.values.specs.declared.walk.Stands.TheVariants.{AtValue, PastValue}
 use Rattle.values.specs.declared.walk.Walk.{Walk}
 use Rattle.values.specs.Values.{lies_as, Value, Values, Elements}
 
@@ -46,60 +50,80 @@ module _ (ordered : List ℕ → List ℕ) (bytes : List ℕ) (end : ℕ) where
   Comes (at_value e k) p r = Then (Value ordered bytes (depth_of k) (limit end k) (lies_as e) p) (Rest k) r
   Comes (past_value k) p r = Rest k p r
 
+abbrev pub around_of : Owed → Around
+around_of (at_value e k) = k
+around_of (past_value k) = k
+
 module _ (bytes : List ℕ) (codes_end end : ℕ) where
-  -- the first d frames, and the codes xs that are to come, are those of what is around
-  abbrev pub Stacked : Around → List Frame → ℕ → List ℕ → Type 0
-  Stacked (top ts) fs d xs = (d ≡ 0) × (spell_all ts (drop codes_end bytes) ≡ xs)
-  Stacked (in_struct ts k) fs d xs =
-      (n : ℕ) × (d ≡ n + 1) × (slice_index_or fs n Struct ≡ Struct)
-      × ((c : ℕ) × (ys : List ℕ) × ((c ≡ 41) ⊎ (c ≡ 125)) × (spell_all ts (c ∷ ys) ≡ xs) × Stacked k fs n ys)
-  Stacked (in_array e q k) fs d xs =
-      (n : ℕ) × (d ≡ n + 1) × (x : ℕ) × (slice_index_or fs n Struct ≡ Array x (limit end k))
-      × ((q ≤ limit end k) × (spell_element e xs ≡ drop x bytes) × Stacked k fs n xs)
-  Stacked (in_variant k) fs d xs =
-      (n : ℕ) × (d ≡ n + 1) × (x : ℕ) × (slice_index_or fs n Struct ≡ Variant x)
-      × ((x ≤ length bytes) × Stacked k fs n (drop x bytes))
+  -- the frames, and the codes xs that are to come, are those of what is around
+  abbrev pub Stacked : Around → List Frame → List ℕ → Type 0
+  Stacked (top ts) fs xs = (fs ≡ []) × (spell_all ts (drop codes_end bytes) ≡ xs)
+  Stacked (in_struct ts k) fs xs =
+      (gs : List Frame) × (fs ≡ gs ++ Struct ∷ [])
+      × (c : ℕ) × (ys : List ℕ) × ((c ≡ 41) ⊎ (c ≡ 125)) × (spell_all ts (c ∷ ys) ≡ xs) × Stacked k gs ys
+  Stacked (in_array e q k) fs xs =
+      (gs : List Frame) × (x : ℕ) × (fs ≡ gs ++ Array x (limit end k) ∷ [])
+      × (q ≤ limit end k) × (spell_element e xs ≡ drop x bytes) × Stacked k gs xs
+  Stacked (in_variant k) fs xs =
+      (gs : List Frame) × (x : ℕ) × (fs ≡ gs ++ Variant x ∷ [])
+      × (x ≤ length bytes) × Stacked k gs (drop x bytes)
 
-  abbrev pub Tied : Owed → Bool → List Frame → ℕ → ℕ → ℕ → ℕ → Type 0
-  Tied (at_value e k) past fs d s p lim =
-      (past ≡ false) × (lim ≡ limit end k) × (p ≤ lim) × (end ≤ length bytes) × (d ≤ 65)
-      × ((ys : List ℕ) × (spell_element e ys ≡ drop s bytes) × Stacked k fs d ys)
-  Tied (past_value k) past fs d s p lim =
-      (past ≡ true) × (lim ≡ limit end k) × (p ≤ lim) × (end ≤ length bytes) × (d ≤ 65)
-      × ((s ≤ length bytes) × Stacked k fs d (drop s bytes))
+  -- so are those of a walk, whose next code is the one at s
+  abbrev pub Tied : Owed → Stands → List Frame → ℕ → Type 0
+  Tied (at_value e k) stands fs s = (stands ≡ AtValue) × (ys : List ℕ) × (spell_element e ys ≡ drop s bytes) × Stacked k fs ys
+  Tied (past_value k) stands fs s = (stands ≡ PastValue) × (s ≤ length bytes) × Stacked k fs (drop s bytes)
 
-  abbrev pub Of : Owed → Walk → Type 0
-  Of o w = Tied o w.past w.frames w.depth w.code w.at w.end
+-- a walk through values up to an end owes this
+pub record Of (end : ℕ) (o : Owed) (w : Walk) : Type 0 where
+  pub within : (w.codes_end ≤ length w.bytes.now) × (end ≤ length w.bytes.now)
+  pub limited : w.end ≡ limit end (around_of o)
+  pub place : w.at ≤ w.end
+  pub tied : Tied w.bytes.now w.codes_end end o w.stands w.frames.items w.code
 
 -- a walk stands somewhere in values
-pub record Somewhere (bytes : List ℕ) (w : Walk) : Type 0 where
-  pub codes_end : ℕ
+pub record Somewhere (w : Walk) : Type 0 where
   pub end : ℕ
   pub owed : Owed
-  pub of : Of bytes codes_end end owed w
+  pub of : Of end owed w
 
--- from p, where o was owed, the walk came to w, and what it owes there comes to what o comes to
-pub record Went (ordered : List ℕ → List ℕ) (bytes : List ℕ) (codes_end end : ℕ) (o : Owed) (p : ℕ) (w : Walk) : Type 0 where
+-- it stands at a value that begins with this head
+pub record AtHead (h : Head) (w : Walk) : Type 0 where
+  pub here : Somewhere w
+  pub value : w.stands ≡ AtValue
+  pub head : head_code h ≡ slice_index w.bytes.now w.code
+
+-- the frame of the innermost of what is around it
+abbrev pub innermost : Walk → Option Frame
+innermost w = slice_get w.frames.items (length w.frames.items - 1)
+
+-- it has nothing more to walk
+abbrev pub Done : Walk → Type 0
+Done w = (w.stands ≡ PastValue) × (w.frames.items ≡ []) × (w.code ≡ w.codes_end)
+
+-- from w, where o was owed, the walk came to v, and what it owes there comes to what o comes to
+pub record Went (ordered : List ℕ → List ℕ) (end : ℕ) (o : Owed) (w v : Walk) : Type 0 where
+  pub message : v.bytes.now ≡ w.bytes.now
   pub next : Owed
-  pub of : Of bytes codes_end end next w
-  pub comes : (r : Result ℕ Flaw) → Comes ordered bytes end next w.at r → Comes ordered bytes end o p r
+  pub of : Of end next v
+  pub comes : (r : Result ℕ Flaw) → Comes ordered w.bytes.now end next v.at r → Comes ordered w.bytes.now end o w.at r
+
+abbrev pub rank : Stands → ℕ → ℕ → ℕ
+rank AtValue frames codes = codes
+rank PastValue frames codes = 2 ^ 65 + frames
 
 -- falls with each step: a byte that is passed counts for more than all else
-abbrev pub weight : ℕ → Walk → ℕ
-weight len w = 2 ^ 66 * (len - w.at) + cond w.past (2 ^ 65 + w.depth) (len - w.code)
+abbrev pub weight : Walk → ℕ
+weight w = 2 ^ 66 * (length w.bytes.now - w.at) + rank w.stands (length w.frames.items) (length w.bytes.now - w.code)
 
--- a step from w to v that cannot fail
-abbrev pub Moved : (List ℕ → List ℕ) → List ℕ → Walk → Walk → Type 0
-Moved ordered bytes w v = (codes_end end : ℕ) (o : Owed) → Of bytes codes_end end o w → Went ordered bytes codes_end end o w.at v
+-- a step from w to v: the walk goes on, whatever it owed
+pub record Moved (ordered : List ℕ → List ℕ) (w v : Walk) : Type 0 where
+  pub goes : (end : ℕ) (o : Owed) → Of end o w → Went ordered end o w v
+  pub falls : weight v < weight w
 
--- a step from w to v says of what was owed: the walk goes on, or that is the flaw
-abbrev pub Stepped : (List ℕ → List ℕ) → List ℕ → Walk → Walk → Result (Unit {0}) Flaw → Type 0
-Stepped ordered bytes w v r =
-    (codes_end end : ℕ) (o : Owed) → Of bytes codes_end end o w →
-    MatchResult r (λ _. Went ordered bytes codes_end end o w.at v) (λ f. Comes ordered bytes end o w.at (Err f))
+-- this is the flaw in whatever it owed
+abbrev pub Fails : (List ℕ → List ℕ) → Walk → Flaw → Type 0
+Fails ordered w f = (end : ℕ) (o : Owed) → Of end o w → Comes ordered w.bytes.now end o w.at (Err f)
 
--- a step past a value: it was the last, or the walk goes on
-abbrev pub Passed : (List ℕ → List ℕ) → List ℕ → ℕ → Walk → Walk → Bool → Type 0
-Passed ordered bytes codes_end w v done =
-    (end : ℕ) (o : Owed) → Of bytes codes_end end o w →
-    MatchBool done (Comes ordered bytes end o w.at (Ok v.at)) (Went ordered bytes codes_end end o w.at v)
+-- a step that may fail
+abbrev pub Stepped : (List ℕ → List ℕ) → Walk → Walk → Result (Unit {0}) Flaw → Type 0
+Stepped ordered w v r = MatchResult r (λ _. Moved ordered w v) (Fails ordered w)

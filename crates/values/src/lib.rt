@@ -1,66 +1,37 @@
 // The values of a message, and whether they lie as their types ask.
 #![tactic(auto)]
 
-ghost use Rattle.std.specs.Prelude.{◌≡◌, ◌≤◌, length, Decides};
-ghost use Rattle.values.specs.Values.{Read, Decided, Spelled, OfTypes};
+ghost use Rattle.std.specs.Prelude.{Decides};
+ghost use Rattle.values.specs.Values.{Read, Decided, Spelled};
 
 mod walk;
 
 use items::{Cause, Flaw, Span};
 use order::ByteOrder;
 use signature::is_signature;
-use walk::{Frame, Walk};
-
-// Walks through values of the types of a signature.
-fn walked<O: ByteOrder>(bytes: &[u8], codes: Span, at: usize, end: usize) -> Result<usize, Flaw>
-    requires codes { Spelled bytes.now codes }
-    requires place { (at ≤ end) × (end ≤ length bytes.now) }
-    ensures { OfTypes O.ByteOrder.ordered bytes.now codes at end result }
-{
-    let mut walk = Walk {
-        frames: [Frame::Struct; 65],
-        depth: 0,
-        code: codes.from,
-        at,
-        end,
-        past: true,
-    };
-    loop {
-        if walk.past {
-            if walk.close::<O>(bytes, codes.to) {
-                return Ok(walk.at);
-            }
-        } else {
-            walk.open::<O>(bytes)?;
-        }
-    }
-}
+use walk::walked;
 
 // Whether a span lies in the message and holds a signature.
 fn spells(bytes: &[u8], codes: Span) -> bool
     ensures { Decides result (Spelled bytes.now codes) }
 {
-    let Span { from, to } = codes;
-    from <= to && to <= bytes.len() && is_signature(&bytes[from..to])
+    bytes
+        .get(codes.from..codes.to)
+        .is_some_and(|types| is_signature(types))
 }
 
 // Where the values end that lie from `at` on, of the types of a signature that lies in the message too; or the first flaw.
 // `end` is the end of the part of the message that they are in.
+#[tactic(auto, using(crate::proofs::Once::decided))]
 pub fn values<O: ByteOrder>(bytes: &[u8], codes: Span, at: usize, end: usize) -> Result<usize, Flaw>
     ensures value { Read O.ByteOrder.ordered bytes.now codes at end result }
     ensures once { Decided }
 {
     if at > end || end > bytes.len() {
-        return Err(Flaw {
-            cause: Cause::PastEnd,
-            byte: at,
-        });
+        return Err(Cause::PastEnd.at(at));
     }
     if !spells(bytes, codes) {
-        return Err(Flaw {
-            cause: Cause::Signature,
-            byte: codes.from,
-        });
+        return Err(Cause::Signature.at(codes.from));
     }
     walked::<O>(bytes, codes, at, end)
 }

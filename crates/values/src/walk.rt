@@ -1,20 +1,24 @@
 // A walk through the values of a message: what is around the place where it stands.
-ghost use Rattle.std.specs.Prelude.{◌≡◌, ℕ, ◌+◌, ◌<◌, ◌≤◌, true, false, ◌⊎◌, List, length, drop, is_ok, slice_index};
+ghost use Rattle.std.specs.Prelude.{◌≡◌, ℕ, ◌≤◌, ◌⊎◌, List, [], length, drop, take, Decides};
 ghost use Rattle.signature.specs.declared.codes.Head.{Head as HeadOf};
 ghost use Rattle.signature.specs.declared.codes.Head.TheVariants as heads;
 ghost use Rattle.signature.specs.Codes.{head_code, align};
 ghost use Rattle.signature.specs.Trees.{Element, spell_element};
-ghost use Rattle.values.specs.Walks.{Owed, Of, Somewhere, Moved, Stepped, Passed, weight};
+ghost use Rattle.values.specs.declared.walk.Stands.TheVariants.{AtValue, PastValue};
+ghost use Rattle.values.specs.Values.{Spelled, OfTypes};
+ghost use Rattle.values.specs.Walks.{Somewhere, AtHead, Done, innermost, Moved, Stepped};
 
 use area::front;
-use items::{Flaw, Place};
+use arrayvec::ArrayVec;
+use items::{Flaw, Place, Span};
 use order::ByteOrder;
 use signature::{Alignment, Basic, Head, element_end};
 
 // An array, struct, dict entry or variant around the place where a walk stands.
-#[derive(Clone, Copy)]
-pub enum Frame {
+#[derive(Clone, Copy, Default)]
+enum Frame {
     // a struct or dict entry
+    #[default]
     Struct,
     // where its element's type begins, and the end of what is around it
     Array { element: usize, outer: usize },
@@ -22,28 +26,33 @@ pub enum Frame {
     Variant { codes: usize },
 }
 
-// A container with 64 around it is open at most, which makes 65.
+// What a walk stands at.
+#[derive(Clone, Copy, PartialEq, Eq)]
+enum Stands {
+    AtValue,
+    // a value has just ended there
+    PastValue,
+}
+
 #[derive(Drop)]
-pub struct Walk {
-    pub frames: [Frame; 65],
-    pub depth: usize,
+struct Walk<'a> {
+    bytes: &'a [u8],
+    codes_end: usize,
+    // A container with 64 around it is open at most, which makes 65.
+    frames: ArrayVec<Frame, 65>,
     // the next code, and the next byte
-    pub code: usize,
-    pub at: usize,
+    code: usize,
+    at: usize,
     // the end of the innermost array or part
-    pub end: usize,
-    // a value has just ended at `at`
-    pub past: bool,
+    end: usize,
+    stands: Stands,
 }
 
 // The alignment of what begins with a code.
 fn alignment_of(code: u8) -> Alignment
     ensures { (h : HeadOf) → head_code h ≡ code → result ≡ align h }
 {
-    match Head::try_from(code) {
-        Ok(head) => head.alignment(),
-        Err(_) => Alignment::One,
-    }
+    Head::try_from(code).map_or(Alignment::One, |head| head.alignment())
 }
 
 // Where the codes go on behind the element that begins at `from`.
@@ -52,171 +61,164 @@ fn past_element(bytes: &[u8], from: usize) -> usize
     ensures value { (e : Element) (rest : List ℕ) → spell_element e rest ≡ drop from bytes.now → drop result bytes.now ≡ rest }
     ensures bound { result ≤ length bytes.now }
 {
-    match element_end(&bytes[from..]) {
-        Some(size) => from + size,
-        None => from,
-    }
+    from + element_end(&bytes[from..]).unwrap_or(0)
 }
 
-impl Walk {
-    fn basic<O: ByteOrder>(&mut self, bytes: &[u8], kind: Basic) -> Result<(), Flaw>
-        requires here { Somewhere bytes.now self.old }
-        requires flat { self.old.past ≡ false }
-        requires code { head_code (heads.Basic kind) ≡ slice_index bytes.now self.old.code }
-        ensures goes { Stepped O.ByteOrder.ordered bytes.now self.old self.new result }
-        ensures falls { is_ok result ≡ true → weight (length bytes.now) self.new < weight (length bytes.now) self.old }
+impl<'a> Walk<'a> {
+    // Where the next item begins.
+    fn place(&self) -> Place<'a>
+        ensures area { result.area.now ≡ take self.now.end self.now.bytes.now }
+        ensures at { result.at ≡ self.now.at }
+        ensures around { result.around ≡ length self.now.frames.items }
+        ensures few { result.around ≤ 65 }
     {
-        let place = Place {
-            area: front(bytes, self.end),
+        Place {
+            area: front(self.bytes, self.end),
             at: self.at,
-            around: self.depth,
-        };
-        let at = place.basic::<O>(kind)?;
-        self.at = at;
+            around: self.frames.len(),
+        }
+    }
+
+    fn basic<O: ByteOrder>(&mut self, kind: Basic) -> Result<(), Flaw>
+        requires { AtHead (heads.Basic kind) self.old }
+        ensures { Stepped O.ByteOrder.ordered self.old self.new result }
+    {
+        self.at = self.place().basic::<O>(kind)?;
         self.code += 1;
-        self.past = true;
+        self.stands = Stands::PastValue;
         Ok(())
     }
 
-    fn structure<O: ByteOrder>(&mut self, bytes: &[u8]) -> Result<(), Flaw>
-        requires here { Somewhere bytes.now self.old }
-        requires flat { self.old.past ≡ false }
-        requires code { (head_code heads.Struct ≡ slice_index bytes.now self.old.code) ⊎ (head_code heads.Entry ≡ slice_index bytes.now self.old.code) }
-        ensures goes { Stepped O.ByteOrder.ordered bytes.now self.old self.new result }
-        ensures falls { is_ok result ≡ true → weight (length bytes.now) self.new < weight (length bytes.now) self.old }
+    fn structure(&mut self) -> Result<(), Flaw>
+        requires { AtHead heads.Struct self.old ⊎ AtHead heads.Entry self.old }
+        ensures { (ordered : List ℕ → List ℕ) → Stepped ordered self.old self.new result }
     {
-        let place = Place {
-            area: front(bytes, self.end),
-            at: self.at,
-            around: self.depth,
-        };
-        let at = place.structure()?;
-        self.frames[self.depth] = Frame::Struct;
-        self.depth += 1;
+        self.at = self.place().structure()?;
         self.code += 1;
-        self.at = at;
+        self.frames.push(Frame::Struct);
         Ok(())
     }
 
-    fn array<O: ByteOrder>(&mut self, bytes: &[u8]) -> Result<(), Flaw>
-        requires here { Somewhere bytes.now self.old }
-        requires flat { self.old.past ≡ false }
-        requires code { head_code heads.Array ≡ slice_index bytes.now self.old.code }
-        ensures goes { Stepped O.ByteOrder.ordered bytes.now self.old self.new result }
-        ensures falls { is_ok result ≡ true → weight (length bytes.now) self.new < weight (length bytes.now) self.old }
+    fn array<O: ByteOrder>(&mut self) -> Result<(), Flaw>
+        requires { AtHead heads.Array self.old }
+        ensures { Stepped O.ByteOrder.ordered self.old self.new result }
     {
         let element = self.code + 1;
-        let alignment = alignment_of(bytes[element]);
-        let outer = self.end;
-        let place = Place {
-            area: front(bytes, outer),
-            at: self.at,
-            around: self.depth,
-        };
-        let span = place.array::<O>(alignment)?;
+        let alignment = alignment_of(self.bytes[element]);
+        let span = self.place().array::<O>(alignment)?;
         self.at = span.from;
         if span.from < span.to {
-            self.frames[self.depth] = Frame::Array { element, outer };
-            self.depth += 1;
+            let outer = self.end;
+            self.frames.push(Frame::Array { element, outer });
             self.code = element;
             self.end = span.to;
         } else {
-            self.code = past_element(bytes, element);
-            self.past = true;
+            self.code = past_element(self.bytes, element);
+            self.stands = Stands::PastValue;
         }
         Ok(())
     }
 
-    fn variant<O: ByteOrder>(&mut self, bytes: &[u8]) -> Result<(), Flaw>
-        requires here { Somewhere bytes.now self.old }
-        requires flat { self.old.past ≡ false }
-        requires code { head_code heads.Variant ≡ slice_index bytes.now self.old.code }
-        ensures goes { Stepped O.ByteOrder.ordered bytes.now self.old self.new result }
-        ensures falls { is_ok result ≡ true → weight (length bytes.now) self.new < weight (length bytes.now) self.old }
+    fn variant(&mut self) -> Result<(), Flaw>
+        requires { AtHead heads.Variant self.old }
+        ensures { (ordered : List ℕ → List ℕ) → Stepped ordered self.old self.new result }
     {
-        let place = Place {
-            area: front(bytes, self.end),
-            at: self.at,
-            around: self.depth,
-        };
-        let at = place.type_code()?;
-        self.frames[self.depth] = Frame::Variant {
-            codes: self.code + 1,
-        };
-        self.depth += 1;
+        let at = self.place().type_code()?;
+        let codes = self.code + 1;
+        self.frames.push(Frame::Variant { codes });
         self.code = self.at + 1;
         self.at = at;
         Ok(())
     }
 
     // Takes the value at which the walk stands, or what it opens with.
-    pub(crate) fn open<O: ByteOrder>(&mut self, bytes: &[u8]) -> Result<(), Flaw>
-        requires here { Somewhere bytes.now self.old }
-        requires flat { self.old.past ≡ false }
-        ensures goes { Stepped O.ByteOrder.ordered bytes.now self.old self.new result }
-        ensures falls { is_ok result ≡ true → weight (length bytes.now) self.new < weight (length bytes.now) self.old }
+    fn open<O: ByteOrder>(&mut self) -> Result<(), Flaw>
+        requires here { Somewhere self.old }
+        requires value { self.old.stands ≡ AtValue }
+        ensures { Stepped O.ByteOrder.ordered self.old self.new result }
     {
-        match Head::try_from(bytes[self.code]) {
-            Ok(Head::Basic(kind)) => self.basic::<O>(bytes, kind),
-            Ok(Head::Variant) => self.variant::<O>(bytes),
-            Ok(Head::Array) => self.array::<O>(bytes),
-            Ok(Head::Struct) => self.structure::<O>(bytes),
-            Ok(Head::Entry) => self.structure::<O>(bytes),
+        match Head::try_from(self.bytes[self.code]) {
+            Ok(Head::Basic(kind)) => self.basic::<O>(kind),
+            Ok(Head::Variant) => self.variant(),
+            Ok(Head::Array) => self.array::<O>(),
+            Ok(Head::Struct | Head::Entry) => self.structure(),
             Err(_) => unreachable(),
         }
     }
 
-    // Goes on behind a value in a container.
-    fn leave<O: ByteOrder>(&mut self, bytes: &[u8])
-        requires here { Somewhere bytes.now self.old }
-        requires past { self.old.past ≡ true }
-        requires inside { 0 < self.old.depth }
-        ensures goes { Moved O.ByteOrder.ordered bytes.now self.old self.new }
-        ensures falls { weight (length bytes.now) self.new < weight (length bytes.now) self.old }
+    // Whether there is nothing more to walk.
+    fn is_done(&self) -> bool
+        ensures { Decides result (Done self.now) }
     {
-        let frame = self.frames[self.depth - 1];
-        match frame {
-            Frame::Struct => {
-                let code = bytes[self.code];
-                if code == b')' || code == b'}' {
-                    self.code += 1;
-                    self.depth -= 1;
-                } else {
-                    self.past = false;
-                }
-            }
-            Frame::Array { element, outer } => {
-                if self.at < self.end {
-                    self.code = element;
-                    self.past = false;
-                } else {
-                    self.end = outer;
-                    self.depth -= 1;
-                }
-            }
-            Frame::Variant { codes } => {
-                self.code = codes;
-                self.depth -= 1;
-            }
-        }
+        self.stands == Stands::PastValue && self.frames.is_empty() && self.code == self.codes_end
     }
 
-    // Goes on behind a value: whether there is nothing more to walk.
-    pub(crate) fn close<O: ByteOrder>(&mut self, bytes: &[u8], codes_end: usize) -> bool
-        requires here { (e : ℕ) × (o : Owed) × Of bytes.now codes_end e o self.old }
-        requires past { self.old.past ≡ true }
-        requires within { codes_end ≤ length bytes.now }
-        ensures goes { Passed O.ByteOrder.ordered bytes.now codes_end self.old self.new result }
-        ensures falls { result ≡ false → weight (length bytes.now) self.new < weight (length bytes.now) self.old }
+    // The innermost of what is around.
+    fn innermost(&self) -> Option<Frame>
+        ensures { result ≡ innermost self.now }
     {
-        if self.depth > 0 {
-            self.leave::<O>(bytes);
-            return false;
-        }
-        if self.code == codes_end {
-            return true;
-        }
-        self.past = false;
-        false
+        self.frames.last().copied()
     }
+
+    // Goes on behind a value.
+    fn close(&mut self)
+        requires here { Somewhere self.old }
+        requires past { self.old.stands ≡ PastValue }
+        requires more { Done self.old → ⊥ }
+        ensures { (ordered : List ℕ → List ℕ) → Moved ordered self.old self.new }
+    {
+        match self.innermost() {
+            None => self.stands = Stands::AtValue,
+            Some(Frame::Struct) => {
+                if matches!(self.bytes[self.code], b')' | b'}') {
+                    self.code += 1;
+                    self.frames.pop();
+                } else {
+                    self.stands = Stands::AtValue;
+                }
+            }
+            Some(Frame::Array { element, outer }) => {
+                if self.at < self.end {
+                    self.code = element;
+                    self.stands = Stands::AtValue;
+                } else {
+                    self.end = outer;
+                    self.frames.pop();
+                }
+            }
+            Some(Frame::Variant { codes }) => {
+                self.code = codes;
+                self.frames.pop();
+            }
+        }
+    }
+}
+
+// Walks through values of the types of a signature.
+pub(crate) fn walked<O: ByteOrder>(
+    bytes: &[u8],
+    codes: Span,
+    at: usize,
+    end: usize,
+) -> Result<usize, Flaw>
+    requires codes { Spelled bytes.now codes }
+    requires place { (at ≤ end) × (end ≤ length bytes.now) }
+    ensures { OfTypes O.ByteOrder.ordered bytes.now codes at end result }
+{
+    let mut walk = Walk {
+        bytes,
+        codes_end: codes.to,
+        frames: ArrayVec::new(),
+        code: codes.from,
+        at,
+        end,
+        stands: Stands::PastValue,
+    };
+    while !walk.is_done() {
+        match walk.stands {
+            Stands::AtValue => walk.open::<O>()?,
+            Stands::PastValue => walk.close(),
+        }
+    }
+    Ok(walk.at)
 }

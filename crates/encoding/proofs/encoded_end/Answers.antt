@@ -1,5 +1,6 @@
-use Rattle.std.proofs.Common.{ℕ, ◌^◌, ◌<◌, List, length, get_or, Ok, Err, inl, inr, rules}
+use Rattle.std.proofs.Common.{ℕ, ◌^◌, ◌<◌, List, length, get_or, Ok, Err, MatchOption, Result, inl, inr, rules}
 use Rattle.std.specs.List.{AllByRecursion}
+use Rattle.std.specs.Result.{result_ok}
 use Rattle.order.specs.Numbers.{Byte}
 use Rattle.order.specs.Spreads.{all_from}
 use Rattle.items.specs.declared.Span.{Span}
@@ -9,7 +10,6 @@ use Rattle.values.specs.Values.{Read}
 use Rattle.values.proofs.Once.{values_one}
 use Rattle.encoding.specs.Encodings.{IsByteOrder, EncodedAt}
 use Rattle.encoding.proofs.Laws.{law}
-use Rattle.encoding.proofs.Samples.{samples}
 use Rattle.encoding.proofs.encoded_end.Goals as goal
 
 module _ (ordered : List ℕ → List ℕ) (laws : IsByteOrder ordered) (bytes : List ℕ) (all : AllByRecursion Byte bytes) (short : length bytes < 2 ^ 32) (codes : Span) (at end : ℕ) where
@@ -34,26 +34,19 @@ module _ (ordered : List ℕ → List ℕ) (laws : IsByteOrder ordered) (bytes :
   flaw_none f (inl (l, inr h)) q k = h.0 k.spelled
   flaw_none f (inr h) q k = h.0 (k.place, k.inside)
 
-pub returns-in-Ok : goal.returns-in-Ok
-returns-in-Ok g c =
-    let met = g.met.O.ByteOrder in
-    let laws : IsByteOrder g.O.ByteOrder.ordered = record { twice = met.twice; size = met.size; bytes = met.bytes } in
-    let b = c.args.bytes.now in
-    let fit : (k : ℕ) → get_or b k 0 < 256 = search rules in
-    record {
-      value = λ short. read_encoded g.O.ByteOrder.ordered laws b (all_from Byte b fit) short c.args.codes c.args.at c.args.end c.in-Ok.ends c.in-Ok.ensures.value;
-      law = law;
-      examples = samples;
-    }
+  judged : (r : Result ℕ Flaw) → Read ordered bytes codes at end r → MatchOption (result_ok r) ((q : ℕ) → EncodedAt ordered bytes codes at end q → ⊥) (λ q. EncodedAt ordered bytes codes at end q)
+  judged (Ok q) h = read_encoded q h
+  judged (Err f) h = flaw_none f h
 
-pub returns-in-Err : goal.returns-in-Err
-returns-in-Err g c =
+pub returns-clause-value : goal.returns-clause-value
+returns-clause-value g c short =
     let met = g.met.O.ByteOrder in
-    let laws : IsByteOrder g.O.ByteOrder.ordered = record { twice = met.twice; size = met.size; bytes = met.bytes } in
     let b = c.args.bytes.now in
     let fit : (k : ℕ) → get_or b k 0 < 256 = search rules in
-    record {
-      value = λ short q k. flaw_none g.O.ByteOrder.ordered laws b (all_from Byte b fit) short c.args.codes c.args.at c.args.end c.in-Err.field-0 c.in-Err.ensures.value q k;
-      law = law;
-      examples = samples;
-    }
+    let h = judged
+    g.O.ByteOrder.ordered (record { twice = met.twice; size = met.size; bytes = met.bytes }) b (all_from Byte b fit) short c.args.codes c.args.at c.args.end
+    c.values.result c.values.ensures.value in
+    rw (← c.ok.ensures.value) at h
+
+pub returns-clause-law : goal.returns-clause-law
+returns-clause-law g c = law

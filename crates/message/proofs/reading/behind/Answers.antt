@@ -1,4 +1,5 @@
 use Rattle.std.proofs.Common.{◌≡◌, ℕ, ◌+◌, ◌<◌, List, length, take, Ok, Err, Result, refl, subst, inl, inr, arith, length-take}
+use Rattle.std.proofs.lemmas.Bool.{false≢true}
 use Rattle.std.proofs.lemmas.Result.{err_from_is_err_and}
 use Rattle.signature.specs.declared.codes.Basic.TheVariants as basics
 use Rattle.items.specs.declared.fault.Flaw.{Flaw}
@@ -38,25 +39,29 @@ returns-in_err-end g c =
     rw (p.1, p.2)
     (inl (c.in_ok-fields.fields, (c.read_fields.result, c.read_fields.ensures, c.in_ok-fields.ensures), inr (f, (c.contents.result, c.contents.ensures, c.in_err-end.ensures), refl)))
 
-pub returns-in_err-whole_end : goal.returns-in_err-whole_end
-returns-in_err-whole_end g c =
-    let p = err_from_is_err_and c.from_residual-in_err-whole_end.result c.from_residual-in_err-whole_end.ensures.1 in
-    let f = c.in_err-whole_end.field-0.0 in
-    rw (p.1, p.2)
-    (inl (
-      c.in_ok-fields.fields,
-      (c.read_fields.result, c.read_fields.ensures, c.in_ok-fields.ensures),
-      inl (c.in_ok-end.end, (c.contents.result, c.contents.ensures, c.in_ok-end.ensures), inr (f, (c.whole.result, c.whole.ensures, c.in_err-whole_end.ensures), refl)),
-    ))
-
-pub returns : goal.returns
-returns g c =
+pub returns-then-not-is_complete : goal.returns-then-not-is_complete
+returns-then-not-is_complete g c =
+    let missing = c.if-not-is_complete.ensures in
     inl (
       c.in_ok-fields.fields,
       (c.read_fields.result, c.read_fields.ensures, c.in_ok-fields.ensures),
-      inl (
-        c.in_ok-end.end,
-        (c.contents.result, c.contents.ensures, c.in_ok-end.ensures),
-        inl (c.in_ok-whole_end.whole_end, (c.whole.result, c.whole.ensures, c.in_ok-whole_end.ensures), (c.filled.result, c.filled.ensures, c.within-4.ensures)),
-      ),
+      inl (c.in_ok-end.end, (c.contents.result, c.contents.ensures, c.in_ok-end.ensures), inr (_, (Err _, inr (λ k. false≢true (missing.1 k), refl), refl), refl)),
+    )
+
+pub returns-then-end-bytes : goal.returns-then-end-bytes
+returns-then-end-bytes g c =
+    let q = c.in_ok-end.end in
+    inl (
+      c.in_ok-fields.fields,
+      (c.read_fields.result, c.read_fields.ensures, c.in_ok-fields.ensures),
+      inl (q, (c.contents.result, c.contents.ensures, c.in_ok-end.ensures), inl (q, (Ok q, inl (c.if-not-is_complete.ensures.0 refl, refl), refl), (Err _, inr (c.if-end-bytes.true, refl), refl))),
+    )
+
+pub returns : goal.returns
+returns g c =
+    let q = c.in_ok-end.end in
+    inl (
+      c.in_ok-fields.fields,
+      (c.read_fields.result, c.read_fields.ensures, c.in_ok-fields.ensures),
+      inl (q, (c.contents.result, c.contents.ensures, c.in_ok-end.ensures), inl (q, (Ok q, inl (c.if-not-is_complete.ensures.0 refl, refl), refl), (Ok _, inl (c.if-end-bytes.false, refl), refl))),
     )

@@ -1,39 +1,24 @@
-use Rattle.std.proofs.Common.{◌≡◌, ◌^◌, ◌<◌, length, sym, arith}
-use Rattle.std.proofs.lemmas.Bool.{false≢true}
-use Rattle.values.proofs.Ties.{fall_past}
-use Rattle.values.proofs.Passes.{top_done, top_more}
+use Rattle.std.proofs.Common.{arith}
+use Rattle.values.proofs.Passes.{struct_in, top_moves, struct_moves, struct_leaves, array_moves, array_leaves, variant_leaves}
 use Rattle.values.proofs.walk.Walk.close.Goals as goal
 
-pub leave-requires : goal.leave-requires
-leave-requires g c =
-    let s = c.requires.here in
-    record {
-      here = record { codes_end = c.args.codes_end; end = s.0; owed = s.1; of = s.2 };
-      past = c.requires.past;
-      inside = c.if-self-gt0.true;
-    }
+pub bounds-self-self : goal.bounds-self-self
+bounds-self-self c = struct_in c.args.self.now c.requires.past (cc) c.requires.here
 
-pub returns-then-self-gt0 : goal.returns-then-self-gt0
-returns-then-self-gt0 g c = record {
-  goes = λ e o h. c.leave.ensures.goes c.args.codes_end e o h;
-  falls = λ t. c.leave.ensures.falls;
-}
+pub returns-in-None : goal.returns-in-None
+returns-in-None c o = top_moves o c.args.self.now c.requires.past (cc) c.requires.more (omega arith)
 
-pub returns-then-self-codes_end : goal.returns-then-self-codes_end
-returns-then-self-codes_end g c =
-    let none : c.args.self.now.depth ≡ 0 = omega arith in
-    record {
-      goes = λ e o h. top_done g.O.ByteOrder.ordered c.args.bytes.now c.args.codes_end e c.args.self.now c.requires.past none c.if-self-codes_end.true o h;
-      falls = λ t. absurd (false≢true (sym t));
-    }
+pub returns-then-matches : goal.returns-then-matches
+returns-then-matches c o = struct_leaves o c.args.self.now c.requires.past c.pop.new.self c.pop.ensures.rest (cc) (grind arith) (omega arith)
 
-pub returns : goal.returns
-returns g c =
-    let w = c.args.self.now in
-    let b = c.args.bytes.now in
-    let none : w.depth ≡ 0 = omega arith in
-    let len : length b < 2 ^ 64 = omega arith in
-    record {
-      goes = λ e o h. top_more g.O.ByteOrder.ordered b c.args.codes_end e w c.requires.past none c.if-self-codes_end.false c.requires.within o h;
-      falls = λ t. fall_past (length b) w.at w.depth w.code w.code w.past c.requires.past len;
-    }
+pub returns-else-matches : goal.returns-else-matches
+returns-else-matches c o = struct_moves o c.args.self.now c.requires.past (cc) (grind arith) (grind arith) (omega arith)
+
+pub returns-then-self : goal.returns-then-self
+returns-then-self c o = array_moves o c.args.self.now c.requires.past c.in-Some-Array.element c.in-Some-Array.outer (cc) c.if-self.true (omega arith)
+
+pub returns-else-self : goal.returns-else-self
+returns-else-self c o = array_leaves o c.args.self.now c.requires.past c.pop-else-self.new.self c.pop-else-self.ensures.rest c.in-Some-Array.element c.in-Some-Array.outer (cc) c.if-self.false (omega arith)
+
+pub returns-in-Some-Variant : goal.returns-in-Some-Variant
+returns-in-Some-Variant c o = variant_leaves o c.args.self.now c.requires.past c.pop-in-Some-Variant.new.self c.pop-in-Some-Variant.ensures.rest c.in-Some-Variant.codes (cc) (omega arith)

@@ -1,12 +1,8 @@
-use Rattle.values.proofs.Steps.{in_bytes, no_head}
+use Rattle.values.proofs.Steps.{code_in, no_head}
 use Rattle.values.proofs.walk.Walk.open.Goals as goal
 
-pub bounds-bytes-self : goal.bounds-bytes-self
-bounds-bytes-self g c =
-    let s = c.requires.here in
-    (in_bytes g.O.ByteOrder.ordered c.args.bytes.now s.codes_end s.end c.args.self.now c.requires.flat s.owed s.of).0
+pub bounds-self-self : goal.bounds-self-self
+bounds-self-self g c = code_in c.args.self.now c.requires.value c.requires.here
 
 pub unreachable-requires : goal.unreachable-requires
-unreachable-requires g c =
-    let s = c.requires.here in
-    absurd (no_head g.O.ByteOrder.ordered c.args.bytes.now s.codes_end s.end c.args.self.now c.requires.flat s.owed s.of c.in-Err.ensures)
+unreachable-requires g c = absurd (no_head c.args.self.now c.requires.value c.requires.here c.in-Err.ensures)

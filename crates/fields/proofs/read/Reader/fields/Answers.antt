@@ -2,7 +2,7 @@ use Rattle.std.proofs.lemmas.Result.{err_from_is_err_and}
 use Rattle.std.proofs.Common.{Err, arith}
 use Rattle.fields.specs.Headers.{no_more, bad_one, one_more}
 use Rattle.fields.proofs.Parts.{one_on}
-use Rattle.fields.proofs.read.all_fields.Goals as goal
+use Rattle.fields.proofs.read.Reader.fields.Goals as goal
 
 pub returns-in_err-fields : goal.returns-in_err-fields
 returns-in_err-fields g c =
@@ -12,7 +12,7 @@ returns-in_err-fields g c =
 
 pub loop-fields-smaller : goal.loop-fields-smaller
 loop-fields-smaller g c =
-    let on = one_on g.O.ByteOrder.ordered c.args.bytes.now c.args.end c.loop-fields.fields _ c.in_ok-fields.ensures in
+    let on = one_on g.O.ByteOrder.ordered c.args.self.bytes.now c.args.self.end c.loop-fields.fields _ c.in_ok-fields.ensures in
     omega (arith, on, c.loop-fields-test.true)
 
 pub loop-fields-preserved : goal.loop-fields-preserved
