@@ -49,7 +49,7 @@ impl<'a, O: ByteOrder> Reader<'a, O> {
     }
 
     pub fn read_u8(&mut self) -> Result<u8, Failure> {
-        let [byte] = self.array()?;
+        let [byte] = self.array::<1>()?;
         Ok(byte)
     }
 
