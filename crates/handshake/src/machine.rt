@@ -93,6 +93,7 @@ impl Handshake {
     }
 
     // Gives the handshake a line. The answer is written to the buffer's front, and its length is answered.
+    // The buffer is lent by the host, and nothing is allocated.
     pub fn line(&mut self, id: &[u8; 16], line: &[u8], out: &mut [u8]) -> Result<usize, Refusal>
         ensures answer { result ≡ counted (heard self.old.state self.old.uid id.now line.now (length out.old)).answer }
         ensures after { self.new ≡ moved self.old (heard self.old.state self.old.uid id.now line.now (length out.old)).next }

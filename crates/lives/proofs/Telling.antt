@@ -49,12 +49,25 @@ told_refused t c h s ShortBuffer n = refl
 told_refused t c h s AlreadyBegun n = refl
 told_refused t c h s EarlyBegin n = absurd (n refl)
 
--- so a life that refused a line may be stored again, but for an early BEGIN
-pub stored_again : (t : Table) (id line : List ℕ) (c room : ℕ) (h k : Handshake) (e : Refusal) → life t c ≡ Some h → (heard h.state h.uid id line room).answer ≡ Err e → k ≡ moved h (heard h.state h.uid id line room).next → (e ≡ EarlyBegin → ⊥) → set t c (Some k) ≡ (lined t id c line room).lives
-stored_again t id line c room h k e is refused after n =
-    let same : k ≡ h = after ∙ ap (moved h) (refused_stays h.state h.uid id line room e refused) in
-    ap (λ (o : Option Handshake). set t c o) (ap Some same ∙ sym is)
-    ∙ set-get_or t c None
-    ∙ sym (told_refused t c h (heard h.state h.uid id line room).next e n)
-    ∙ ap (λ (a : Result (List ℕ) Refusal). (told t c h (heard h.state h.uid id line room).next a).lives) (sym refused)
-    ∙ ap (λ (o : Option Handshake). (hears o t id c line room).lives) (sym is)
+-- what a line that was refused leaves where the life h was
+module _ (t : Table) (id line : List ℕ) (c room : ℕ) (h : Handshake) (e : Refusal) (is : life t c ≡ Some h) (refused : (heard h.state h.uid id line room).answer ≡ Err e) where
+  abbrev left : Table
+  left = (lined t id c line room).lives
+
+  left_is : (told t c h (heard h.state h.uid id line room).next (Err e)).lives ≡ left
+  left_is =
+      ap (λ (a : Result (List ℕ) Refusal). (told t c h (heard h.state h.uid id line room).next a).lives) (sym refused)
+      ∙ ap (λ (o : Option Handshake). (hears o t id c line room).lives) (sym is)
+
+  pub closed_early : e ≡ EarlyBegin → set t c None ≡ left
+  closed_early early =
+      ap (λ (f : Refusal). (told t c h (heard h.state h.uid id line room).next (Err f)).lives) (sym early)
+      ∙ left_is
+
+  pub stored_again : (k : Handshake) → k ≡ moved h (heard h.state h.uid id line room).next → (e ≡ EarlyBegin → ⊥) → set t c (Some k) ≡ left
+  stored_again k after late =
+      let same : k ≡ h = after ∙ ap (moved h) (refused_stays h.state h.uid id line room e refused) in
+      ap (λ (o : Option Handshake). set t c o) (ap Some same ∙ sym is)
+      ∙ set-get_or t c None
+      ∙ sym (told_refused t c h (heard h.state h.uid id line room).next e late)
+      ∙ left_is

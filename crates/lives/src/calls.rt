@@ -53,6 +53,7 @@ impl From<Refusal> for u8 {
     }
 }
 
+// What a call does to the table and that it keeps the id are clauses apart, since callers speak of the two apart.
 impl Lives {
     // Whether c has a life that has begun.
     pub fn has_begun(&self, c: u8) -> bool
@@ -83,6 +84,7 @@ impl Lives {
     }
 
     // Gives the life at c a line. The answer is written to the buffer's front, and its length is answered.
+    // The buffer is lent by the host, and nothing is allocated.
     pub fn line(&mut self, c: u8, line: &[u8], out: &mut [u8]) -> Result<usize, Refusal>
         ensures answer { result ≡ counted (lined self.old.table self.old.id c line.now (length out.old)).answer }
         ensures lives { self.new.table ≡ (lined self.old.table self.old.id c line.now (length out.old)).lives }
