@@ -1,5 +1,6 @@
 // Reading the fields.
 ghost use Rattle.std.specs.Prelude.{◌≡◌, ◌+◌, ◌-◌, ◌^◌, ◌<◌, ◌≤◌, length, take, Ok as Fine, Decides, IsTrue};
+ghost use Rattle.text.specs.Grammar.{IsBusName};
 ghost use Rattle.items.specs.Items.{Typed, codes_at, text_at};
 ghost use Rattle.fields.specs.Known.{known};
 ghost use Rattle.fields.specs.Headers.{place_of, Free, Own, start as start_of_lem, noted, Proper, Coded, Kinded, Fitting, Valued, OneField, AllFields, none_yet, Header};
@@ -54,6 +55,13 @@ fn type_end(area: &[u8], field: Option<Field>, at: usize) -> Result<usize, Flaw>
     Ok(end)
 }
 
+// Whether the bytes are a bus name of either kind.
+fn is_bus_name(bytes: &[u8]) -> bool
+    ensures { Decides result (IsBusName bytes.now) }
+{
+    bus_name(bytes).is_some()
+}
+
 // A value that is well, of a field that is known or not.
 #[derive(Clone, Copy)]
 struct Found<'a> {
@@ -82,7 +90,7 @@ impl<'a> Found<'a> {
             Some(Field::Interface | Field::ErrorName) => is_interface(self.text::<O>()),
             Some(Field::Member) => is_member(self.text::<O>()),
             Some(Field::ReplySerial) => self.place.word::<O>().unwrap_or(0) != 0,
-            Some(Field::Destination | Field::Sender) => bus_name(self.text::<O>()).is_some(),
+            Some(Field::Destination | Field::Sender) => is_bus_name(self.text::<O>()),
             Some(Field::Path | Field::Signature) | None => true,
         }
     }
