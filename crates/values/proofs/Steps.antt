@@ -122,7 +122,7 @@ module _ (ordered : List ℕ → List ℕ) (w : Walk) where
       basic_goes {e} i k h =
           let lt = at_code b i h.tied.1 w.code h.tied.2 in
           record {
-            message = refl;
+            same = (refl, refl);
             next = past_value k;
             of = record {
               within = h.within;
@@ -172,7 +172,7 @@ module _ (ordered : List ℕ → List ℕ) (w : Walk) where
           let v = opens i k h in
           let d = depth_of k in
           record {
-            message = refl;
+            same = (refl, refl);
             next = at_value (single v.first) (in_struct v.others k);
             of = record {
               within = h.within;
@@ -236,7 +236,7 @@ module _ (ordered : List ℕ → List ℕ) (w : Walk) where
               let d = depth_of k in
               let hd = spread i k h (Ok t) p in
               record {
-                message = refl;
+                same = (refl, refl);
                 next = at_value j.0 (in_array j.0 t.to k);
                 of = record {
                   within = h.within;
@@ -274,7 +274,7 @@ module _ (ordered : List ℕ → List ℕ) (w : Walk) where
               let j = element i k h in
               let els : Elements ordered b (depth_of k + 1) t.to j.0 t.from (Ok t.from) = no_more eq in
               record {
-                message = refl;
+                same = (refl, refl);
                 next = past_value k;
                 of = record {
                   within = h.within;
@@ -323,7 +323,7 @@ module _ (ordered : List ℕ → List ℕ) (w : Walk) where
           let v = variant_there i k h in
           let lt = at_code b i h.tied.1 w.code h.tied.2 in
           record {
-            message = refl;
+            same = (refl, refl);
             next = at_value (single one.type) (in_variant k);
             of = record {
               within = h.within;
