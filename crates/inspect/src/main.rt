@@ -71,7 +71,9 @@ fn work(rt: &HostRuntime) -> anyhow::Result<()> {
     let messages = score.messages();
     println!(rt;
         "{messages} message{}: {} valid, {} faulty",
-        plural(messages), score.valid, score.faulty
+        plural(messages),
+        score.valid,
+        score.faulty
     )?;
     Ok(())
 }
