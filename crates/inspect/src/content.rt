@@ -4,11 +4,11 @@ use crate::reader::Reader;
 use crate::value::{LEVELS, Shown};
 use crate::words::{InWords, Plain};
 use fields::{Field, Fields};
-use frame::{FRAME_SIZE, Frame, Order};
+use frame::{FRAME_SIZE, Order};
 use message::Layout;
 use order::{Big, ByteOrder, Little};
 use signature::{Alignment, Basic};
-use std::alloc::{AllocError, Global};
+use std::alloc::Global;
 use std::fmt;
 
 // The known fields, as they come one after the other.
@@ -38,17 +38,6 @@ impl fmt::Display for Known<'_> {
             Known::Text(bytes) => write!(f, "{}", Plain(bytes)),
         }
     }
-}
-
-// What the frame says of a message of so many bytes.
-fn framed(heap: Global, frame: Frame, size: usize) -> Result<String, AllocError> {
-    format!(in heap;
-        "{}, {}, serial {}, flags {}, {size} bytes",
-        InWords(frame.kind),
-        InWords(frame.order),
-        frame.serial,
-        frame.flags
-    )
 }
 
 // The value of a known field, behind its padding.
@@ -81,7 +70,7 @@ impl<O: ByteOrder> Shown<'_, O> {
 
     // Shows the unknown ones of the fields up to `end`.
     fn unknown_fields(&mut self, end: usize) -> Result<(), Failure> {
-        // a field has at least one byte
+        // no contract says that a field takes a byte, which it does, so the turns are counted
         for _ in self.reader.at()..end {
             if self.reader.at() >= end {
                 break;
@@ -117,7 +106,7 @@ fn ordered<O: ByteOrder>(heap: Global, bytes: &[u8], layout: Layout) -> Result<S
     let Layout { frame, fields } = layout;
     let mut shown = Shown {
         reader: Reader::<O>::new(bytes, FRAME_SIZE),
-        text: framed(heap, frame, bytes.len())?,
+        text: format!(in heap; "{}, {} bytes", InWords(frame), bytes.len())?,
     };
     for field in KNOWN {
         if let Some(at) = fields.place(field) {

@@ -18,6 +18,7 @@ impl From<AllocError> for Failure {
     }
 }
 
+// Each program has its own words for bytes that are not in hex.
 impl From<Fault> for Failure {
     fn from(fault: Fault) -> Failure {
         match fault {

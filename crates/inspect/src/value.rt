@@ -1,4 +1,6 @@
 // Showing values.
+ghost use Rattle.std.specs.Prelude.{◌<◌, length, IfOk};
+
 use crate::failure::Failure;
 use crate::reader::Reader;
 use crate::words::{Plain, Quoted};
@@ -29,9 +31,11 @@ fn members(inner: &[u8]) -> Result<&[u8], Failure> {
 }
 
 // The first type, and those behind it.
-fn parted(types: &[u8]) -> Result<(&[u8], &[u8]), Failure> {
+fn parted(types: &[u8]) -> Result<(&[u8], &[u8]), Failure>
+    ensures { IfOk result (λ parts. length parts.1.now < length types.now) }
+{
     match element_end(types) {
-        Some(end) if end <= types.len() => Ok(types.split_at(end)),
+        Some(end) if 0 < end && end <= types.len() => Ok(types.split_at(end)),
         _ => Err(Failure::Unreadable),
     }
 }
@@ -80,17 +84,13 @@ impl<O: ByteOrder> Shown<'_, O> {
     #[cycle(array_value_values_variant)]
     pub fn values(&mut self, types: &[u8], between: &str, levels: usize) -> Result<(), Failure> {
         let mut left = types;
-        // a type has at least one code
-        for k in 0..types.len() {
-            if left.is_empty() {
-                break;
-            }
-            if k > 0 {
-                self.text.push_str(between)?;
-            }
+        let mut before = "";
+        while !left.is_empty() {
+            self.text.push_str(before)?;
             let (first, rest) = parted(left)?;
             self.value(first, levels)?;
             left = rest;
+            before = between;
         }
         Ok(())
     }
@@ -117,15 +117,15 @@ impl<O: ByteOrder> Shown<'_, O> {
         self.reader.pad(head.alignment());
         let end = self.reader.at().saturating_add(size);
         self.text.push(open)?;
-        // an element has at least one byte
-        for k in 0..size {
+        let mut before = "";
+        // no contract says that an element takes a byte, which it does, so the turns are counted
+        for _ in 0..size {
             if self.reader.at() >= end {
                 break;
             }
-            if k > 0 {
-                self.text.push_str(", ")?;
-            }
+            self.text.push_str(before)?;
             self.value(element, levels)?;
+            before = ", ";
         }
         self.text.push(close)?;
         Ok(())

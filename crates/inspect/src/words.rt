@@ -1,6 +1,6 @@
 // What is shown, as text.
 use fields::Field;
-use frame::{Kind, Order};
+use frame::{Frame, Kind, Order};
 use items::{Cause, Fault, Part};
 use std::fmt;
 
@@ -56,6 +56,24 @@ impl fmt::Display for InWords<Order> {
             Order::Little => "little endian",
             Order::Big => "big endian",
         })
+    }
+}
+
+impl fmt::Display for InWords<Frame> {
+    fn fmt<W: fmt::Write>(&self, f: &mut fmt::Formatter<W>) -> fmt::Result {
+        let Frame {
+            order,
+            kind,
+            flags,
+            serial,
+            ..
+        } = self.0;
+        write!(
+            f,
+            "{}, {}, serial {serial}, flags {flags}",
+            InWords(kind),
+            InWords(order)
+        )
     }
 }
 

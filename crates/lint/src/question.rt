@@ -39,6 +39,7 @@ impl From<AllocError> for Wrong {
     }
 }
 
+// Each program has its own words for bytes that are not in hex.
 impl From<Fault> for Wrong {
     fn from(fault: Fault) -> Wrong {
         match fault {

@@ -5,7 +5,7 @@ use crate::question::Kind;
 use signature::is_signature;
 use text::{BusName, bus_name, is_interface, is_member, is_path, is_text};
 
-// Whether bytes are what they are said to be. A bus name is told with its kind.
+// Whether bytes are what they are said to be. Only a bus name is told with its kind, so this is no Option of one.
 #[derive(Clone, Copy)]
 pub enum Verdict {
     No,
@@ -18,7 +18,7 @@ impl Verdict {
         !matches!(self, Verdict::No)
     }
 
-    // What is printed in front of the line.
+    // What is printed in front of the line; two texts for one value, so neither is its Display.
     pub fn word(self) -> &'static str {
         if self.is_yes() { "yes" } else { "no" }
     }

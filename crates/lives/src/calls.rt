@@ -62,10 +62,7 @@ impl Lives {
         let Ok(c) = Connection::try_from(c) else {
             return false;
         };
-        match self.table[c.index()] {
-            Some(life) => life.has_begun(),
-            None => false,
-        }
+        self.table[c.index()].is_some_and(|life| life.has_begun())
     }
 
     // Begins a life at c for a program of the user.

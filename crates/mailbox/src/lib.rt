@@ -61,7 +61,7 @@ pub trait MailboxSet {
     // what waits, by connection, the oldest first
     ghost lists: { Self → Lists };
 
-    // how many messages may wait for one connection
+    // how many messages may wait for one connection; that a call keeps it is said at each, since no type says it of two sets
     ghost bound: { Self → ℕ };
 
     ghost laws: { Laws lists bound };

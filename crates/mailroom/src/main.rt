@@ -11,6 +11,7 @@ use script::{Line, Wrong, read};
 use shelf::Shelf;
 use std::alloc::{AllocError, Global};
 use std::env;
+use std::fmt;
 use std::io::{BufRead, BufReader};
 use std::process::ExitCode;
 use steps::{Answers, Outcome, Step, compare};
@@ -66,19 +67,27 @@ fn made(heap: Global, limit: usize) -> Result<Room, AllocError> {
     Ok(Room { shelf, roll })
 }
 
-// What came of a step that is not `limit`, as it is printed.
-fn told(heap: Global, line: &Line, outcome: Outcome, taken: &[u8]) -> Result<String, AllocError> {
-    match (line, outcome) {
-        (Line::Put(c, _), Outcome::Put(Ok(()))) => format!(in heap; "put {c}: ok"),
-        (Line::Put(c, _), Outcome::Put(Err(refusal))) => format!(in heap; "put {c}: {refusal}"),
-        (Line::Take(c, _), Outcome::Taken(Ok(n))) => format!(in heap;
-            "take {c}: {n} {}",
-            Hex(taken)
-        ),
-        (Line::Take(c, _), Outcome::Taken(Err(refusal))) => format!(in heap; "take {c}: {refusal}"),
-        (Line::Count(c), Outcome::Counted(n)) => format!(in heap; "count {c}: {n}"),
-        (Line::Clear(c), _) => format!(in heap; "clear {c}"),
-        _ => String::from_str(heap, "?"),
+// What came of a step that is not `limit`, with the bytes that were taken.
+#[derive(Clone, Copy)]
+struct Told<'a> {
+    line: &'a Line,
+    outcome: Outcome,
+    taken: &'a [u8],
+}
+
+impl fmt::Display for Told<'_> {
+    fn fmt<W: fmt::Write>(&self, f: &mut fmt::Formatter<W>) -> fmt::Result {
+        match (self.line, self.outcome) {
+            (Line::Put(c, _), Outcome::Put(Ok(()))) => write!(f, "put {c}: ok"),
+            (Line::Put(c, _), Outcome::Put(Err(refusal))) => write!(f, "put {c}: {refusal}"),
+            (Line::Take(c, _), Outcome::Taken(Ok(n))) => {
+                write!(f, "take {c}: {n} {}", Hex(self.taken))
+            }
+            (Line::Take(c, _), Outcome::Taken(Err(refusal))) => write!(f, "take {c}: {refusal}"),
+            (Line::Count(c), Outcome::Counted(n)) => write!(f, "count {c}: {n}"),
+            (Line::Clear(c), _) => write!(f, "clear {c}"),
+            _ => f.write_str("?"),
+        }
     }
 }
 
@@ -110,8 +119,12 @@ fn carry_out(rt: &HostRuntime, room: &mut Room, line: &Line) -> anyhow::Result<b
         other.as_mut_slice(),
     );
     let same = first == second && out == other;
-    let text = told(heap, line, first, written(first, out.as_slice()))?;
-    println!(rt; "{text}{}", if same { "" } else { DIFFERS })?;
+    let told = Told {
+        line,
+        outcome: first,
+        taken: written(first, out.as_slice()),
+    };
+    println!(rt; "{told}{}", if same { "" } else { DIFFERS })?;
     Ok(same)
 }
 
@@ -195,6 +208,7 @@ fn work(rt: &HostRuntime) -> anyhow::Result<()> {
     Ok(())
 }
 
+// Each program says this for itself: a shared function that is given the work would need a `requires`.
 fn run(rt: &HostRuntime) -> anyhow::Result<()> {
     match PROGRAM.request(env::args(rt)?.nth(1).as_deref())? {
         Request::Help => rt.print(PROGRAM.help)?,

@@ -1,12 +1,10 @@
 // The lines of a script.
+use mailbox::PLACES;
 use std::alloc::Global;
 use std::error::Error;
 use std::fmt;
 use std::str::FromStr;
 use stream::{Fault, unhex};
-
-// The largest limit.
-const MOST: usize = 16;
 
 // A line of a script.
 #[derive(Drop)]
@@ -45,6 +43,7 @@ impl fmt::Display for Wrong {
 
 impl Error for Wrong {}
 
+// Each program has its own words for bytes that are not in hex.
 impl From<Fault> for Wrong {
     fn from(fault: Fault) -> Wrong {
         match fault {
@@ -64,7 +63,7 @@ where
 
 fn limit(word: Option<&str>) -> Result<usize, Wrong> {
     let limit = number::<usize>(word)?;
-    if limit > MOST {
+    if limit > PLACES {
         return Err(Wrong::BadNumber);
     }
     Ok(limit)

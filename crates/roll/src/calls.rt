@@ -38,10 +38,7 @@ impl MailboxSet for Roll {
     }
 
     fn count(&self, c: u8) -> usize {
-        match Connection::try_from(c) {
-            Ok(c) => self.count_of(c),
-            Err(_) => 0,
-        }
+        Connection::try_from(c).map_or(0, |c| self.count_of(c))
     }
 
     fn put(&mut self, c: u8, message: &[u8]) -> Result<(), Refusal> {

@@ -61,7 +61,8 @@ pub(super) fn find(area: &[u8], records: usize, c: Connection) -> Option<Span>
     ensures { MatchOption result (messages c.number (decode records area.now) ≡ []) (λ r. First area.now records (length (encode (decode records area.now))) c.number r.at r.size) }
 {
     let mut at = 0;
-    for _k in 0..records {
+    // where a record begins is known only from the lengths of those before it
+    for _ in 0..records {
         let size = size_at(area, at);
         if area[at] == c.number {
             return Some(Span { at, size });

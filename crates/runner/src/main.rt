@@ -78,6 +78,7 @@ fn work(rt: &HostRuntime) -> anyhow::Result<()> {
     Ok(())
 }
 
+// Each program says this for itself: a shared function that is given the work would need a `requires`.
 fn run(rt: &HostRuntime) -> anyhow::Result<()> {
     match PROGRAM.request(env::args(rt)?.nth(1).as_deref())? {
         Request::Help => rt.print(PROGRAM.help)?,

@@ -78,10 +78,8 @@ fn read_bus(heap: Global, words: &mut Words) -> Result<Call, Fault>
     }
     let bytes = words.bytes(heap)?;
     words.end()?;
-    match <[u8; 16]>::try_from(bytes.as_slice()) {
-        Ok(id) => Ok(Call::Bus { limit, id }),
-        Err(_) => Err(Fault::WrongLength),
-    }
+    let id = <[u8; 16]>::try_from(bytes.as_slice()).map_err(|_| Fault::WrongLength)?;
+    Ok(Call::Bus { limit, id })
 }
 
 fn read_open(words: &mut Words) -> Result<Call, Fault>
@@ -141,7 +139,7 @@ fn read_close(words: &mut Words) -> Result<Call, Fault>
     Ok(Call::Close { connection })
 }
 
-// The call of a verb, from the words that follow.
+// The call of a verb, from the words that follow. The heap is apart from the words, which allocate nothing.
 fn read_arguments(heap: Global, verb: Verb, words: &mut Words) -> Result<Call, Fault>
     ensures { Arguments verb (left words.old) result }
 {

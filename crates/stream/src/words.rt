@@ -96,10 +96,10 @@ impl<'a> Words<'a> {
     pub(crate) fn end(&self) -> Result<(), Fault>
         ensures { MatchResult result (λ _. left self.now ≡ []) (λ e. (e ≢ OutOfMemory) × (left self.now ≢ [])) }
     {
-        match self.rest {
-            Some(_) => Err(Fault::WrongCount),
-            None => Ok(()),
+        if self.rest.is_some() {
+            return Err(Fault::WrongCount);
         }
+        Ok(())
     }
 }
 

@@ -39,7 +39,8 @@ impl Kind {
     }
 }
 
-// How many bytes at the front an element may hold.
+// How many bytes at the front an element may hold. In this and what follows the bytes change from step to step and the
+// kind does not, so the two are no struct.
 fn run(bytes: &[u8], kind: Kind) -> usize
     ensures within { result ≤ length bytes.now }
     ensures before { (k : ℕ) → k < result → Holds kind (slice_index bytes.now k) }

@@ -48,7 +48,7 @@ pub fn is_interface(bytes: &[u8]) -> bool
     bytes.len() <= LONGEST && is_dotted(bytes, Kind::Name)
 }
 
-// Which kind of bus name the bytes are; None where they are none.
+// Which kind of bus name the bytes are; None where they are none. It is no conversion: the name stays bytes.
 pub fn bus_name(bytes: &[u8]) -> Option<BusName>
     ensures { Told bytes.now result }
 {
