@@ -48,6 +48,7 @@ impl MailboxSet for Shelf {
         }
     }
 
+    // Reads as the roll's does; `append` requires room, so it can be no member of the trait.
     fn put(&mut self, c: u8, message: &[u8]) -> Result<(), Refusal> {
         let c = Connection::try_from(c)?;
         let message = Message::try_from(message)?;
