@@ -10,6 +10,7 @@ pub fn store(area: &mut [u8], at: usize, bytes: &[u8]) -> Option<usize>
     ensures after { area.new ≡ (if fits area.old at bytes.now then written area.old at bytes.now else area.old) }
 {
     let end = at.checked_add(bytes.len())?;
+    // `get_mut` would not do: its contract says nothing of the slice after the write
     if end > area.len() {
         return None;
     }

@@ -45,6 +45,7 @@ impl MailboxSet for Shelf {
         Connection::try_from(c).map_or(0, |c| self.count_of(c))
     }
 
+    // Reads as the roll's does; `append` requires room, so it can be no member of the trait.
     fn put(&mut self, c: u8, message: &[u8]) -> Result<(), Refusal> {
         let c = Connection::try_from(c)?;
         let message = Message::try_from(message)?;

@@ -2,7 +2,7 @@
 #![tactic(auto)]
 
 ghost use Rattle.std.specs.Prelude.{◌≡◌, length};
-ghost use Rattle.steps.specs.Steps.{Alike, meant, outcome, lists_after, buffer_after};
+ghost use Rattle.steps.specs.Steps.{Alike, outcome, lists_after, buffer_after};
 
 use mailbox::{MailboxSet, Refusal};
 
@@ -26,9 +26,9 @@ pub enum Outcome {
 
 // Carries out the step. A message that is taken is written to the buffer's front.
 pub fn carry_out<M: MailboxSet>(set: &mut M, step: Step<'_>, buffer: &mut [u8]) -> Outcome
-    ensures answer { result ≡ outcome (M.MailboxSet.bound set.old) (M.MailboxSet.lists set.old) (meant step.entry) (length buffer.old) }
-    ensures after { M.MailboxSet.lists set.new ≡ lists_after (M.MailboxSet.bound set.old) (M.MailboxSet.lists set.old) (meant step.entry) (length buffer.old) }
-    ensures buffer { buffer.new ≡ buffer_after (M.MailboxSet.lists set.old) (meant step.entry) buffer.old }
+    ensures answer { result ≡ outcome (M.MailboxSet.bound set.old) (M.MailboxSet.lists set.old) step.entry (length buffer.old) }
+    ensures after { M.MailboxSet.lists set.new ≡ lists_after (M.MailboxSet.bound set.old) (M.MailboxSet.lists set.old) step.entry (length buffer.old) }
+    ensures buffer { buffer.new ≡ buffer_after (M.MailboxSet.lists set.old) step.entry buffer.old }
     ensures bound { M.MailboxSet.bound set.new ≡ M.MailboxSet.bound set.old }
 {
     match step {
@@ -58,8 +58,8 @@ pub fn compare<F: MailboxSet, S: MailboxSet>(
     out: &mut [u8],
     other: &mut [u8],
 ) -> Answers
-    ensures first { result.first ≡ outcome (F.MailboxSet.bound first.old) (F.MailboxSet.lists first.old) (meant step.entry) (length out.old) }
-    ensures second { result.second ≡ outcome (S.MailboxSet.bound second.old) (S.MailboxSet.lists second.old) (meant step.entry) (length other.old) }
+    ensures first { result.first ≡ outcome (F.MailboxSet.bound first.old) (F.MailboxSet.lists first.old) step.entry (length out.old) }
+    ensures second { result.second ≡ outcome (S.MailboxSet.bound second.old) (S.MailboxSet.lists second.old) step.entry (length other.old) }
     ensures law { Alike (F.MailboxSet.bound first.old) (F.MailboxSet.lists first.old) out.old (S.MailboxSet.bound second.old) (S.MailboxSet.lists second.old) other.old → (result.first ≡ result.second) × Alike (F.MailboxSet.bound first.new) (F.MailboxSet.lists first.new) out.new (S.MailboxSet.bound second.new) (S.MailboxSet.lists second.new) other.new }
 {
     let a = carry_out(first, step, out);
