@@ -87,12 +87,12 @@ module _ (id : List ℕ) (uid : ℕ) where
     abbrev Carries : State → Turn (List ℕ) → Type 0
     Carries s t = x.answer ≡ t.answer → Shown t.next xs → Shown s (x ∷ xs)
 
-    abbrev Carries_reply : State → Turn Reply → Type 0
-    Carries_reply s t = x.answer ≡ worded id t.answer → Shown t.next xs → Shown s (x ∷ xs)
+    abbrev CarriesReply : State → Turn Reply → Type 0
+    CarriesReply s t = x.answer ≡ worded id t.answer → Shown t.next xs → Shown s (x ∷ xs)
 
     one : (s : State) (c : Command) → read x.line ≡ c → 37 ≤ x.room → x.answer ≡ worded id (turn s uid c).answer → Shown (turn s uid c).next xs → Shown s (x ∷ xs)
     one WaitingForAuth (external text) r m a s =
-        either (Carries_reply WaitingForAuth) (bytes_eq text (credential uid)) _ _
+        either (CarriesReply WaitingForAuth) (bytes_eq text (credential uid)) _ _
         (λ e. pass text (read_external x.line text r) ((bytes_eq-Decides text (credential uid)).0 e))
         (λ _ _. later x xs) a s
     one WaitingForAuth other_auth r m a s = later x xs s

@@ -53,7 +53,7 @@ impl From<Refusal> for u8 {
     }
 }
 
-// What a call does to the table and that it keeps the id are clauses apart, since callers speak of the two apart.
+// The table and the id are told by clauses apart: one clause over both would owe the invariant of the new table.
 impl Lives {
     // Whether c has a life that has begun.
     pub fn has_begun(&self, c: u8) -> bool
