@@ -1,8 +1,8 @@
 -- The pieces that basic values are made of: padding, numbers, and bytes with a zero behind them.
+use Rattle.std.proofs.lemmas.Grind.{common_steps}
 use Rattle.std.proofs.Common.{◌≡◌, ℕ, ◌+◌, ◌-◌, ◌^◌, ◌<◌, ◌≤◌, List, [], ◌∷◌, ◌++◌, length, get_or, take, drop, replicate, sym, ap, ◌∙◌, subst, pow-suc, arith}
 use Rattle.std.specs.List.{AllByRecursion}
-use Rattle.std.proofs.lemmas.List.{length-take-le, length-drop, length-append, length-replicate}
-use Rattle.std.proofs.ByRecursion.{All-take, All-drop}
+use Rattle.std.proofs.lemmas.List.{length-append, length-replicate}
 use Rattle.std.proofs.lemmas.Bool.Decides.{nat_tests}
 use Rattle.order.specs.Numbers.{Byte, number, bytes_of}
 use Rattle.order.proofs.Trips.{read_written, written_read, length_bytes_of}
@@ -10,7 +10,7 @@ use Rattle.signature.specs.declared.codes.Alignment.{Alignment}
 use Rattle.signature.specs.Codes.{step}
 use Rattle.items.specs.Items.{codes_at, codes_end, codes_last, number_at, text_at, text_end, text_last}
 use Rattle.encoding.specs.Encodings.{Lies, IsByteOrder, place, padded, codes, digits, text}
-use Rattle.encoding.proofs.Spans.{there, long, alone, reads, from_reads, join, first, second}
+use Rattle.encoding.proofs.Spans.{there, long, alone, reads, join, first, second}
 
 pub place_above : (a : Alignment) (p : ℕ) → p ≤ place a p
 place_above a p = let n = step a in grind (arith, nat_tests)
@@ -25,7 +25,7 @@ number_under (x ∷ xs) h =
 
 module _ (area : List ℕ) where
   part_long : (p n : ℕ) → p + n ≤ length area → length (take n (drop p area)) ≡ n
-  part_long p n h = length-take-le n (drop p area) (omega (arith, length-drop p area))
+  part_long p n h = grind (arith, common_steps)
 
   -- padding
   pub unpad : (a : Alignment) (f : ℕ → List ℕ) {p q : ℕ} → Lies area p q (padded a f p) → Lies area p (place a p) (replicate (place a p - p) 0) × Lies area (place a p) q (f (place a p))
@@ -39,10 +39,7 @@ module _ (area : List ℕ) where
 
   -- one byte
   one : (p : ℕ) → p + 1 ≤ length area → Lies area p (p + 1) (get_or area p 0 ∷ [])
-  one p h =
-      let x = get_or area p 0 in
-      let e : p + 0 ≡ p = omega arith in
-      from_reads area p (x ∷ []) h (λ k l. let z : 0 ≡ k = omega arith in subst (λ (j : ℕ). get_or area (p + j) 0 ≡ get_or (x ∷ []) j 0) z (ap (λ (n : ℕ). get_or area n 0) e))
+  one p h = grind (arith, common_steps)
 
   head : {p q x : ℕ} {xs : List ℕ} → Lies area p q (x ∷ xs) → get_or area p 0 ≡ x
   head {p} h =
@@ -51,8 +48,7 @@ module _ (area : List ℕ) where
 
   -- bytes with a zero behind them
   pub closed : (p n : ℕ) → p + n + 1 ≤ length area → get_or area (p + n) 0 ≡ 0 → Lies area p (p + n + 1) (take n (drop p area) ++ 0 ∷ [])
-  closed p n h z =
-      join area (there area p n (omega arith)) (subst (λ (x : ℕ). Lies area (p + n) (p + n + 1) (x ∷ [])) z (one (p + n) h))
+  closed p n h z = grind (arith, common_steps)
 
   pub closing : {p q : ℕ} (xs : List ℕ) → Lies area p q (xs ++ 0 ∷ []) → (q ≡ p + length xs + 1) × (get_or area (p + length xs) 0 ≡ 0) × (take (length xs) (drop p area) ≡ xs)
   closing {p} {q} xs h =
@@ -62,10 +58,7 @@ module _ (area : List ℕ) where
 
   -- a signature with its length before it
   pub codes_there : (p : ℕ) → codes_end area p ≤ length area → codes_last area p ≡ 0 → Lies area p (codes_end area p) (codes (codes_at area p))
-  codes_there p h z =
-      let n = get_or area p 0 in
-      let l = part_long (p + 1) n (omega arith) in
-      subst (λ (k : ℕ). Lies area p (codes_end area p) (k ∷ (codes_at area p ++ 0 ∷ []))) (sym l) (join area (one p (omega arith)) (closed (p + 1) n h z))
+  codes_there p h z = grind (arith, common_steps)
 
   pub codes_read : {p q : ℕ} (xs : List ℕ) → Lies area p q (codes xs) → (q ≡ codes_end area p) × (codes_last area p ≡ 0) × (codes_at area p ≡ xs)
   codes_read {p} {q} xs h =
@@ -77,19 +70,17 @@ module _ (area : List ℕ) where
   module _ (ordered : List ℕ → List ℕ) (laws : IsByteOrder ordered) where
     -- a number
     pub number_read : (n x : ℕ) {p q : ℕ} → x < 256 ^ n → Lies area p q (digits ordered n x) → number (ordered (take n (drop p area))) ≡ x
-    number_read n x {p} {q} h k =
-        let l : length (ordered (bytes_of n x)) ≡ n = laws.size (bytes_of n x) ∙ length_bytes_of n x in
-        ap (λ (m : ℕ). number (ordered (take m (drop p area)))) (sym l) ∙ ap (λ (ys : List ℕ). number (ordered ys)) (alone area k) ∙ ap number (laws.twice (bytes_of n x)) ∙ written_read n x h
+    number_read n x {p} {q} h k = grind (arith, common_steps, alone, written_read, length_bytes_of)
 
     module _ (all : AllByRecursion Byte area) where
       part_bytes : (p n : ℕ) → AllByRecursion Byte (ordered (take n (drop p area)))
-      part_bytes p n = laws.bytes (take n (drop p area)) (All-take Byte n (drop p area) (All-drop Byte p area all))
+      part_bytes p n = grind (arith, common_steps)
 
       part_size : (p n : ℕ) → p + n ≤ length area → length (ordered (take n (drop p area))) ≡ n
-      part_size p n h = laws.size (take n (drop p area)) ∙ part_long p n h
+      part_size p n h = grind (arith, common_steps)
 
       pub number_fits : (p n : ℕ) → p + n ≤ length area → number (ordered (take n (drop p area))) < 256 ^ n
-      number_fits p n h = subst (λ (m : ℕ). number (ordered (take n (drop p area))) < 256 ^ m) (part_size p n h) (number_under (ordered (take n (drop p area))) (part_bytes p n))
+      number_fits p n h = grind (arith, common_steps, part_size, number_under, part_bytes)
 
       pub number_there : (p n : ℕ) → p + n ≤ length area → Lies area p (p + n) (digits ordered n (number (ordered (take n (drop p area)))))
       number_there p n h =

@@ -1,4 +1,5 @@
 -- What the items of a message tell where all is well.
+use Rattle.std.proofs.lemmas.Grind.{common_steps}
 use Rattle.std.proofs.Common.{◌≡◌, ℕ, zero, suc, ◌+◌, ◌-◌, ◌≤◌, Bool, true, false, cond, ◌⊎◌, List, length, replicate, Ok, Err, Result, sym, refl, ◌∙◌, subst, inl, inr, arith}
 use Rattle.std.specs.List.{AllByRecursion}
 use Rattle.order.specs.Numbers.{Byte}
@@ -12,12 +13,12 @@ use Rattle.signature.specs.Codes.{basic_align}
 use Rattle.signature.specs.Trees as types
 use Rattle.items.specs.declared.fault.Flaw.{Flaw}
 use Rattle.items.specs.declared.Span.{Span}
-use Rattle.items.specs.Items.{Pad, Shallow, Fixed, Coded, Opened, Truth, Texted, Pathed, Item, Leaf, Extent, Headed, Zero, codes_at, codes_end, number_at, text_at, text_end, elements_at}
+use Rattle.items.specs.Items.{Pad, Shallow, Fixed, Coded, Opened, Truth, Texted, Pathed, Item, Leaf, Extent, Headed, Zero, codes_at, number_at, text_at, text_end, elements_at}
 use Rattle.items.proofs.Once.{ok_inj, never}
 use Rattle.encoding.specs.Data.{Number, Written, Content}
 use Rattle.encoding.specs.Encodings.{Lies, IsByteOrder, place, anywhere, padded, codes, digits, text, content, counted}
 use Rattle.encoding.proofs.Spans.{long, join, zeros}
-use Rattle.encoding.proofs.Pieces.{place_above, codes_there, number_fits, number_there, text_there}
+use Rattle.encoding.proofs.Pieces.{place_above, number_fits, number_there, text_there}
 
 -- a test that was passed, and a step that was made
 passed : {X P K : Type 0} (x : X) {f : Flaw} → (P × K) ⊎ ((P → ⊥) × ◌≡◌ {A = Result X Flaw} (Ok x) (Err f)) → P × K
@@ -44,7 +45,7 @@ module _ (area : List ℕ) where
       (ok_inj q (place a p) clear.1, zeros area p (place a p) (place_above a p) inside.0 clear.0)
 
   shallow_tells : (around p r q : ℕ) → Shallow area around p r (Ok q) → (around ≤ 64) × (q ≡ r)
-  shallow_tells around p r q h = let few = passed q h in (few.0, ok_inj q r few.1)
+  shallow_tells around p r q h = grind (arith, common_steps)
 
   -- the beginning of a struct
   pub opened_tells : (around p q : ℕ) → Opened area around p (Ok q) → (q ≡ place Eight p) × Lies area p (place Eight p) (replicate (place Eight p - p) 0) × (around ≤ 64)
@@ -56,12 +57,7 @@ module _ (area : List ℕ) where
 
   -- a signature, and the type of a variant
   pub coded_tells : (Valid : List ℕ → Type 0) (around p q : ℕ) → Coded area Valid around p (Ok q) → Valid (codes_at area p) × Lies area p q (codes (codes_at area p)) × (around ≤ 64)
-  coded_tells Valid around p q h =
-      let inside = passed q h in
-      let last = passed q inside.1 in
-      let valid = passed q last.1 in
-      let few = shallow_tells around p (codes_end area p) q valid.1 in
-      (valid.0, ending few.1 (codes_there area p inside.0 last.0), few.0)
+  coded_tells Valid around p q h = grind (arith, common_steps)
 
   module _ (ordered : List ℕ → List ℕ) (laws : IsByteOrder ordered) (all : AllByRecursion Byte area) where
     fixed_tells : (n around p q : ℕ) → Fixed area around n p (Ok q) → (x : Number n) × Lies area p q (digits ordered n x.value) × (around ≤ 64)

@@ -1,4 +1,5 @@
 -- Bytes that lie from one place up to another: read, taken apart and put together.
+use Rattle.std.proofs.lemmas.Grind.{common_steps}
 use Rattle.std.proofs.Common.{◌≡◌, ℕ, ◌+◌, ◌-◌, ◌<◌, ◌≤◌, List, [], ◌++◌, length, get_or, take, drop, replicate, sym, refl, ap, ◌∙◌, subst, ap₂, arith, take-add}
 use Rattle.std.proofs.lemmas.List.{length-take, length-drop, length-append, length-replicate, get_or-take, get_or-drop, get_or-replicate, take-take, take_at, drop_at, drop-drop, drop-take, ext_get_or}
 use Rattle.std.proofs.lemmas.Slice.{between_is}
@@ -8,26 +9,16 @@ use Rattle.encoding.specs.Encodings.{Lies}
 module _ (bytes : List ℕ) where
   -- what stands there
   pub there : (p n : ℕ) → p + n ≤ length bytes → Lies bytes p (p + n) (take n (drop p bytes))
-  there p n h =
-      let e : p + n - p ≡ n = omega arith in
-      record { order = omega arith; inside = h; is = ap (λ (k : ℕ). take k (drop p bytes)) e }
+  there p n h = grind (arith, common_steps)
 
   pub long : {p q : ℕ} {xs : List ℕ} → Lies bytes p q xs → q ≡ p + length xs
-  long {p} {q} {xs} h =
-      let o = h.order in
-      let i = h.inside in
-      let e : length (take (q - p) (drop p bytes)) ≡ length xs = ap length h.is in
-      omega (arith, length-take (q - p) (drop p bytes), length-drop p bytes)
+  long {p} {q} {xs} h = grind (arith, common_steps)
 
   pub alone : {p q : ℕ} {xs : List ℕ} → Lies bytes p q xs → take (length xs) (drop p bytes) ≡ xs
-  alone {p} {q} {xs} h =
-      let l = long h in
-      let e : length xs ≡ q - p = omega arith in
-      ap (λ (k : ℕ). take k (drop p bytes)) e ∙ h.is
+  alone {p} {q} {xs} h = grind (arith, common_steps)
 
   pub reads : {p q : ℕ} {xs : List ℕ} → Lies bytes p q xs → (k : ℕ) → k < length xs → get_or bytes (p + k) 0 ≡ get_or xs k 0
-  reads {p} {q} {xs} h k l =
-      sym (get_or-drop p bytes k 0) ∙ sym (get_or-take (length xs) (drop p bytes) k 0 l) ∙ ap (λ (ys : List ℕ). get_or ys k 0) (alone h)
+  reads {p} {q} {xs} h k l = grind (arith, common_steps)
 
   pub from_reads : (p : ℕ) (xs : List ℕ) → p + length xs ≤ length bytes → ((k : ℕ) → k < length xs → get_or bytes (p + k) 0 ≡ get_or xs k 0) → Lies bytes p (p + length xs) xs
   from_reads p xs h same =
@@ -37,7 +28,7 @@ module _ (bytes : List ℕ) where
       subst (λ (ys : List ℕ). Lies bytes p (p + n) ys) e (there p n h)
 
   pub nothing : (p : ℕ) → p ≤ length bytes → Lies bytes p p []
-  nothing p h = let e : p - p ≡ 0 = omega arith in record { order = omega arith; inside = h; is = ap (λ (k : ℕ). take k (drop p bytes)) e }
+  nothing p h = grind (arith, common_steps)
 
   -- one behind the other
   pub join : {p q r : ℕ} {xs ys : List ℕ} → Lies bytes p q xs → Lies bytes q r ys → Lies bytes p r (xs ++ ys)
@@ -82,19 +73,13 @@ module _ (bytes : List ℕ) where
 
   -- in the bytes up to an end
   same_part : (p q end : ℕ) → q ≤ end → take (q - p) (drop p (take end bytes)) ≡ take (q - p) (drop p bytes)
-  same_part p q end h = between_is (take end bytes) p q ∙ ap (drop p) (take-take q end bytes h) ∙ sym (between_is bytes p q)
+  same_part p q end h = grind (arith, common_steps, between_is, take-take)
 
   pub within : (end : ℕ) {p q : ℕ} {xs : List ℕ} → q ≤ end → Lies bytes p q xs → Lies (take end bytes) p q xs
-  within end {p} {q} h k =
-      let i = k.inside in
-      record { order = k.order; inside = omega (arith, length-take end bytes); is = same_part p q end h ∙ k.is }
+  within end {p} {q} h k = grind (arith, common_steps, same_part, length-take)
 
   pub without : (end : ℕ) {p q : ℕ} {xs : List ℕ} → Lies (take end bytes) p q xs → (q ≤ end) × Lies bytes p q xs
-  without end {p} {q} k =
-      let i = k.inside in
-      let l = length-take end bytes in
-      let h : q ≤ end = omega arith in
-      (h, record { order = k.order; inside = omega arith; is = sym (same_part p q end h) ∙ k.is })
+  without end {p} {q} k = grind (arith, common_steps, same_part, length-take)
 
   -- zero bytes
   pub zeros : (p q : ℕ) → p ≤ q → q ≤ length bytes → Zero bytes p q → Lies bytes p q (replicate (q - p) 0)

@@ -1,6 +1,6 @@
 -- When all is well with the items of a message: the other way round.
-use Rattle.std.proofs.Common.{◌≡◌, ℕ, ◌+◌, ◌-◌, ◌^◌, ◌<◌, ◌≤◌, Bool, true, false, cond, List, [], ◌∷◌, ◌++◌, length, replicate, Ok, sym, refl, ap, ◌∙◌, subst, inl, arith}
-use Rattle.order.specs.Numbers.{bytes_of}
+use Rattle.std.proofs.lemmas.Grind.{common_steps}
+use Rattle.std.proofs.Common.{◌≡◌, ℕ, ◌+◌, ◌-◌, ◌^◌, ◌<◌, ◌≤◌, Bool, cond, List, [], ◌∷◌, ◌++◌, length, replicate, Ok, sym, refl, ap, subst, inl, arith}
 use Rattle.order.proofs.Trips.{length_bytes_of}
 use Rattle.text.specs.Texts as texts
 use Rattle.text.specs.Grammar as names
@@ -19,10 +19,10 @@ use Rattle.encoding.proofs.Pieces.{unpad, codes_read, number_read, text_read}
 
 module _ (area : List ℕ) (around : ℕ) (few : around ≤ 64) where
   before : {p q r : ℕ} {xs : List ℕ} → q ≡ r → Lies area p q xs → r ≤ length area
-  before e h = let i = h.inside in omega arith
+  before e h = grind (arith, common_steps)
 
   pad_passes : (a : Alignment) (p : ℕ) → Lies area p (place a p) (replicate (place a p - p) 0) → Pad area a p (Ok (place a p))
-  pad_passes a p h = inl (h.inside, inl (zero_there area p (place a p) h, refl))
+  pad_passes a p h = grind (arith, common_steps, zero_there)
 
   -- the beginning of a struct
   pub opened_passes : (p : ℕ) → Lies area p (place Eight p) (replicate (place Eight p - p) 0) → Opened area around p (Ok (place Eight p))
@@ -36,20 +36,16 @@ module _ (area : List ℕ) (around : ℕ) (few : around ≤ 64) where
 
   module _ (ordered : List ℕ → List ℕ) (laws : IsByteOrder ordered) (short : length area < 2 ^ 32) where
     digits_long : (n x : ℕ) → length (digits ordered n x) ≡ n
-    digits_long n x = laws.size (bytes_of n x) ∙ length_bytes_of n x
+    digits_long n x = grind (arith, common_steps, length_bytes_of)
 
     to : (n x p q : ℕ) → Lies area p q (digits ordered n x) → q ≡ p + n
-    to n x p q h = long area h ∙ ap (λ (k : ℕ). p + k) (digits_long n x)
+    to n x p q h = grind (arith, common_steps, long, digits_long)
 
     fixed_passes : (n p q : ℕ) (x : Number n) → Lies area p q (digits ordered n x.value) → Fixed area around n p (Ok q)
-    fixed_passes n p q x h = let e = to n x.value p q h in inl (before e h, inl (few, ap Ok e))
+    fixed_passes n p q x h = grind (arith, common_steps, to, before)
 
     truth_passes : (p q : ℕ) (b : Bool) → Lies area p q (digits ordered 4 (cond b 1 0)) → Truth area ordered around p (Ok q)
-    truth_passes p q b h =
-        let e = to 4 (cond b 1 0) p q h in
-        let small : cond b 1 0 ≤ 1 = elim b as (λ v. cond v 1 0 ≤ 1) [ true ↦ omega arith | false ↦ omega arith ] in
-        let r = number_read area ordered laws 4 (cond b 1 0) (omega arith) h in
-        inl (before e h, inl (omega arith, inl (few, ap Ok e)))
+    truth_passes p q b h = grind (arith, common_steps)
 
     written_short : (p q : ℕ) (xs : List ℕ) → Lies area p q (text ordered xs) → length xs < 2 ^ 32
     written_short p q xs h =

@@ -36,6 +36,11 @@ module _ (area : List ℕ) where
   abbrev pub Fixed : ℕ → ℕ → ℕ → Result ℕ Flaw → Type 0
   Fixed around n p = Provided (p + n ≤ length area) PastEnd p (Shallow around p (p + n))
 
+  -- n bytes behind a length of h bytes, with a zero byte at their end
+  abbrev pub Closed : ℕ → ℕ → ℕ → Result Span Flaw → Type 0
+  Closed h n p =
+      Provided (p + h + n + 1 ≤ length area) PastEnd p (Provided (slice_index area (p + h + n) ≡ 0) Text p (Is (record { from = p + h; to = p + h + n })))
+
   -- a signature: its length, its bytes, where it ends, and the last of it
   abbrev pub codes_at : ℕ → List ℕ
   codes_at p = take (slice_index area p) (drop (p + 1) area)

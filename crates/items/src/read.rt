@@ -3,9 +3,9 @@ ghost use Rattle.std.specs.Prelude.{◌≡◌, ℕ, ◌+◌, ◌-◌, ◌^◌, �
 ghost use Rattle.std.specs.Fn.{FnReturnsAt};
 ghost use Rattle.signature.specs.Codes.{step};
 ghost use Rattle.signature.specs.Trees.{Signature as Signed};
-ghost use Rattle.items.specs.declared.fault.Cause.TheVariants.{Padding, PastEnd, Text, Depth};
-ghost use Rattle.items.specs.Faults.{flaw, Is, Provided};
-ghost use Rattle.items.specs.Items.{Pad, Shallow, Leaf, Typed, Opened, Headed, Zero, Fixed, Truth, Texted, Pathed, Coded, Extent, Item, aligned, number_at, text_end, text_last, codes_end, codes_last, elements_at};
+ghost use Rattle.items.specs.declared.fault.Cause.TheVariants.{Padding, PastEnd, Depth};
+ghost use Rattle.items.specs.Faults.{flaw, Provided};
+ghost use Rattle.items.specs.Items.{Pad, Shallow, Begun, Closed, Leaf, Typed, Opened, Headed, Zero, Fixed, Truth, Texted, Pathed, Coded, Extent, Item, aligned, number_at, elements_at};
 
 use crate::Span;
 use crate::fault::{Cause, Flaw};
@@ -121,7 +121,7 @@ impl Place<'_> {
     // Where the bytes of a text or signature lie, behind a length of `head` bytes; a zero byte ends them.
     fn closed(self, head: usize, len: usize) -> Result<Span, Flaw>
         requires { (head ≤ 4) × (len < 2 ^ 32) }
-        ensures { Provided (self.entry.at + head + len + 1 ≤ length self.entry.area.now) PastEnd self.entry.at (Provided (slice_index self.entry.area.now (self.entry.at + head + len) ≡ 0) Text self.entry.at (Is (record { from = self.entry.at + head; to = self.entry.at + head + len }))) result }
+        ensures { Closed self.entry.area.now head len self.entry.at result }
     {
         let end = self.end_of(head + len + 1)?;
         let last = end - 1;
@@ -134,7 +134,7 @@ impl Place<'_> {
 
     // Where the bytes of a text lie, whose length stands here.
     fn letters<O: ByteOrder>(self) -> Result<Span, Flaw>
-        ensures { Provided (text_end self.entry.area.now O.ByteOrder.ordered self.entry.at ≤ length self.entry.area.now) PastEnd self.entry.at (Provided (text_last self.entry.area.now O.ByteOrder.ordered self.entry.at ≡ 0) Text self.entry.at (Is (record { from = self.entry.at + 4; to = self.entry.at + 4 + number_at self.entry.area.now O.ByteOrder.ordered self.entry.at }))) result }
+        ensures { Closed self.entry.area.now 4 (number_at self.entry.area.now O.ByteOrder.ordered self.entry.at) self.entry.at result }
     {
         let len = self.number::<O>()?;
         self.closed(4, len as usize)
@@ -142,7 +142,7 @@ impl Place<'_> {
 
     // Where the codes of a signature lie, whose length stands here.
     fn codes(self) -> Result<Span, Flaw>
-        ensures { Provided (codes_end self.entry.area.now self.entry.at ≤ length self.entry.area.now) PastEnd self.entry.at (Provided (codes_last self.entry.area.now self.entry.at ≡ 0) Text self.entry.at (Is (record { from = self.entry.at + 1; to = self.entry.at + 1 + slice_index self.entry.area.now self.entry.at }))) result }
+        ensures { Closed self.entry.area.now 1 (slice_index self.entry.area.now self.entry.at) self.entry.at result }
     {
         let _ = self.end_of(1)?;
         self.closed(1, usize::from(self.area[self.at]))
@@ -218,7 +218,7 @@ impl Place<'_> {
 
     // The beginning of a struct or dict entry behind its padding.
     fn begun(self) -> Result<usize, Flaw>
-        ensures { Provided (self.entry.around ≤ 64) Depth self.entry.at (Is self.entry.at) result }
+        ensures { Begun self.entry.area.now self.entry.around self.entry.at result }
     {
         self.shallow()?;
         Ok(self.at)

@@ -73,7 +73,7 @@ module _ (ordered : List ℕ → List ℕ) (w : Walk) (past : w.stands ≡ PastV
   top_goes go {e} (more t ts) h =
       let s = h.tied.2 in
       record {
-        message = refl;
+        same = (refl, refl);
         next = at_value (single t) (top ts);
         of = record { within = h.within; limited = h.limited; place = h.place; tied = (refl, spell_all ts (drop w.codes_end b), s.1, (s.0, refl)) };
         comes = λ r c. first_value e t ts r c;
@@ -93,7 +93,7 @@ module _ (ordered : List ℕ → List ℕ) (w : Walk) (past : w.stands ≡ PastV
         let s = h.tied.2 in
         let d = depth_of k in
         record {
-          message = refl;
+          same = (refl, refl);
           next = at_value (single t) (in_struct ts k);
           of = record {
             within = h.within;
@@ -121,7 +121,7 @@ module _ (ordered : List ℕ → List ℕ) (w : Walk) (past : w.stands ≡ PastV
         let d = depth_of k in
         let pl : w.at < q = omega (arith, h.limited, lt) in
         record {
-          message = refl;
+          same = (refl, refl);
           next = at_value i (in_array i q k);
           of = record {
             within = h.within;
@@ -164,7 +164,7 @@ module _ (ordered : List ℕ → List ℕ) (w : Walk) (past : w.stands ≡ PastV
           let lt = code_in w past t none s.2 s.3 s.5 in
           let ys = tail-eq_of_cons-eq (s.5 ∙ drop_more b w.code 0 lt) in
           record {
-            message = refl;
+            same = (refl, refl);
             next = past_value k;
             of = record {
               within = h.within;
@@ -196,7 +196,7 @@ module _ (ordered : List ℕ → List ℕ) (w : Walk) (past : w.stands ≡ PastV
           let pe : w.at ≡ q = omega (arith, h.limited, h.place, le) in
           let els : Elements ordered b (depth_of k + 1) q i w.at (Ok w.at) = no_more pe in
           record {
-            message = refl;
+            same = (refl, refl);
             next = past_value k;
             of = record {
               within = h.within;
@@ -220,7 +220,7 @@ module _ (ordered : List ℕ → List ℕ) (w : Walk) (past : w.stands ≡ PastV
           let P : ℕ → Type 0 = λ y. (y ≤ length b) × Stacked b w.codes_end e k s.0 (drop y b) in
           let there = subst P same (s.3, s.4) in
           record {
-            message = refl;
+            same = (refl, refl);
             next = past_value k;
             of = record {
               within = h.within;

@@ -47,7 +47,7 @@ module _ (ordered : List ℕ → List ℕ) (bytes : List ℕ) (codes : Span) (at
 
   pub stepped : (w v : Walk) → Through w → Moved ordered w v → Through v
   stepped w v t m = record {
-    message = (m.goes t.here.end t.here.owed t.here.of).message ∙ t.message;
+    message = (m.goes t.here.end t.here.owed t.here.of).same.0 ∙ t.message;
     here = let g = m.goes t.here.end t.here.owed t.here.of in record { end = t.here.end; owed = g.next; of = g.of };
     owes = λ ts e.
         let o = t.owes ts e in

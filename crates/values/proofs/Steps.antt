@@ -1,6 +1,7 @@
 -- Each step from a value on keeps what a walk owes.
 use Rattle.std.proofs.Common.{◌≡◌, ℕ, ◌+◌, ◌^◌, ◌<◌, ◌≤◌, ◌⊎◌, List, [], ◌∷◌, ◌++◌, length, get_or, take, drop, Ok, Err, Result, sym, refl, ap, ◌∙◌, subst, inl, inr, ⊎_elim, arith, length-append}
 use Rattle.std.proofs.lemmas.List.{length-take-le}
+use Rattle.std.specs.Result.{IsErrAnd}
 use Rattle.arrayvec.specs.ArrayVec.{ArrayVec}
 use Rattle.signature.specs.declared.codes.Basic.{Basic}
 use Rattle.signature.specs.declared.codes.Alignment.{Alignment}
@@ -19,7 +20,7 @@ use Rattle.values.specs.declared.walk.Frame.TheVariants.{Struct, Array, Variant}
 use Rattle.values.specs.declared.walk.Stands.TheVariants.{AtValue, PastValue}
 use Rattle.values.specs.declared.walk.Walk.{Walk}
 use Rattle.values.specs.Values.{lies_as, Value, leaf, struct_bad, struct_is, array_bad, array_is, variant_bad, variant_is, Values, goes, fails, Elements, no_more, one_more, bad_one}
-use Rattle.values.specs.Walks.{Around, in_struct, in_array, in_variant, depth_of, limit, Owed, at_value, past_value, Rest, Comes, Stacked, Of, Somewhere, AtHead, Went, Moved, Fails}
+use Rattle.values.specs.Walks.{Around, in_struct, in_array, in_variant, depth_of, limit, Owed, at_value, past_value, Rest, Comes, Stacked, Of, Somewhere, AtHead, Went, Moved, Fails, Stepped}
 use Rattle.values.proofs.Ties.{at_code, with_code, Shape, shape_at, at_basic, at_variant, at_array, Opens, at_struct, at_entry, limit_le, depth_is, spelled, fall_at, fall_code}
 
 -- `A` and then `B` and then `C`: what joins `A` to `B` joins the three
@@ -38,6 +39,11 @@ module _ {Y Z : Type 0} (A D : Result Y Flaw → Type 0) (C : Y → Result Z Fla
   pub carried : Then A C r → Then D C r
   carried (inl h) = inl (h.0, good (Ok h.0) h.1, h.2)
   carried (inr h) = inr (h.0, good (Err h.0) h.1, h.2)
+
+-- a step that a flaw ends
+pub stopped : {ordered : List ℕ → List ℕ} {w : Walk} {f : Flaw} (v : Walk) (r : Result (Unit {0}) Flaw) → IsErrAnd r (λ g. g ≡ f) → Fails ordered w f → Stepped ordered w v r
+stopped v (Ok x) h k = absurd h
+stopped {ordered} {w} v (Err g) h k = subst (Fails ordered w) (sym h) k
 
 -- a walk that stands at a value owes that value
 module _ (w : Walk) (value : w.stands ≡ AtValue) where
@@ -116,7 +122,7 @@ module _ (ordered : List ℕ → List ℕ) (w : Walk) where
       basic_goes {e} i k h =
           let lt = at_code b i h.tied.1 w.code h.tied.2 in
           record {
-            message = refl;
+            same = (refl, refl);
             next = past_value k;
             of = record {
               within = h.within;
@@ -166,7 +172,7 @@ module _ (ordered : List ℕ → List ℕ) (w : Walk) where
           let v = opens i k h in
           let d = depth_of k in
           record {
-            message = refl;
+            same = (refl, refl);
             next = at_value (single v.first) (in_struct v.others k);
             of = record {
               within = h.within;
@@ -230,7 +236,7 @@ module _ (ordered : List ℕ → List ℕ) (w : Walk) where
               let d = depth_of k in
               let hd = spread i k h (Ok t) p in
               record {
-                message = refl;
+                same = (refl, refl);
                 next = at_value j.0 (in_array j.0 t.to k);
                 of = record {
                   within = h.within;
@@ -268,7 +274,7 @@ module _ (ordered : List ℕ → List ℕ) (w : Walk) where
               let j = element i k h in
               let els : Elements ordered b (depth_of k + 1) t.to j.0 t.from (Ok t.from) = no_more eq in
               record {
-                message = refl;
+                same = (refl, refl);
                 next = past_value k;
                 of = record {
                   within = h.within;
@@ -317,7 +323,7 @@ module _ (ordered : List ℕ → List ℕ) (w : Walk) where
           let v = variant_there i k h in
           let lt = at_code b i h.tied.1 w.code h.tied.2 in
           record {
-            message = refl;
+            same = (refl, refl);
             next = at_value (single one.type) (in_variant k);
             of = record {
               within = h.within;

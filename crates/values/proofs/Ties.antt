@@ -1,7 +1,7 @@
 -- What ties a walk to what it owes: the codes that are to come, the limits, the frames.
-use Rattle.std.proofs.Common.{◌≡◌, ℕ, ◌+◌, ◌-◌, ◌*◌, ◌^◌, ◌<◌, ◌≤◌, ◌⊎◌, List, [], ◌∷◌, ◌++◌, length, get_or, take, drop, Some, sym, refl, ap, ap₂, subst, ◌∙◌, inl, inr, arith, length-append, length-drop, take-append-drop, drop-drop}
-use Rattle.std.proofs.Math.Seq.{get_or-append_seam, take-append_seam}
+use Rattle.std.proofs.Common.{◌≡◌, ℕ, ◌+◌, ◌-◌, ◌*◌, ◌^◌, ◌<◌, ◌≤◌, ◌⊎◌, List, [], ◌∷◌, ◌++◌, length, get_or, take, drop, Some, sym, refl, ap, subst, ◌∙◌, inl, inr, arith, length-append, length-drop, take-append-drop, drop-drop}
 use Rattle.std.specs.List.{slice_get}
+use Rattle.std.proofs.lemmas.Grind.{common_steps}
 use Rattle.std.proofs.lemmas.Option.{slice_get-get_or}
 use Rattle.std.proofs.lemmas.List.{drop_more, drop-take, take-take}
 use Rattle.signature.specs.declared.codes.Basic.{Basic}
@@ -87,17 +87,13 @@ module _ (bytes : List ℕ) (ce e : ℕ) where
 
 -- the frame on top, and those below it
 module _ (gs fs : List Frame) (f : Frame) (h : fs ≡ gs ++ f ∷ []) where
-  under : length fs - 1 ≡ length gs
-  under = let l = ap length h ∙ length-append gs (f ∷ []) in omega arith
-
   pub top_is : slice_get fs (length fs - 1) ≡ Some f
   top_is =
       let l = ap length h ∙ length-append gs (f ∷ []) in
-      slice_get-get_or fs (length fs - 1) f (omega arith)
-      ∙ ap Some (ap₂ (λ (xs : List Frame) (n : ℕ). get_or xs n f) h under ∙ get_or-append_seam gs f [] f)
+      slice_get-get_or fs (length fs - 1) f (omega arith) ∙ ap Some (grind (arith, common_steps))
 
   pub below_is : take (length fs - 1) fs ≡ gs
-  below_is = ap₂ take under h ∙ take-append_seam gs (f ∷ [])
+  below_is = grind (arith, common_steps)
 
 -- the types are at an end where their codes are
 pub all_end : (ts : Trees) (r : List ℕ) → length (spell_all ts r) ≡ length r → ts ≡ none

@@ -100,9 +100,9 @@ innermost w = slice_get w.frames.items (length w.frames.items - 1)
 abbrev pub Done : Walk → Type 0
 Done w = (w.stands ≡ PastValue) × (w.frames.items ≡ []) × (w.code ≡ w.codes_end)
 
--- from w, where o was owed, the walk came to v, and what it owes there comes to what o comes to
+-- from w, where o was owed, the walk came to v in the same message, and what it owes there comes to what o comes to
 pub record Went (ordered : List ℕ → List ℕ) (end : ℕ) (o : Owed) (w v : Walk) : Type 0 where
-  pub message : v.bytes.now ≡ w.bytes.now
+  pub same : (v.bytes.now ≡ w.bytes.now) × (v.codes_end ≡ w.codes_end)
   pub next : Owed
   pub of : Of end next v
   pub comes : (r : Result ℕ Flaw) → Comes ordered w.bytes.now end next v.at r → Comes ordered w.bytes.now end o w.at r

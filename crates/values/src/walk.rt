@@ -1,4 +1,4 @@
-// A walk through the values of a message: what is around the place where it stands.
+// A walk through the values of a message.
 ghost use Rattle.std.specs.Prelude.{◌≡◌, ℕ, ◌≤◌, ◌⊎◌, List, [], length, drop, take, Decides};
 ghost use Rattle.signature.specs.declared.codes.Head.{Head as HeadOf};
 ghost use Rattle.signature.specs.declared.codes.Head.TheVariants as heads;
@@ -26,14 +26,14 @@ enum Frame {
     Variant { codes: usize },
 }
 
-// What a walk stands at.
+// What a walk stands at: the next value, or the end of the one before it.
 #[derive(Clone, Copy, PartialEq, Eq)]
 enum Stands {
     AtValue,
-    // a value has just ended there
     PastValue,
 }
 
+// A walk: the place where it stands, and what is around it.
 #[derive(Drop)]
 struct Walk<'a> {
     bytes: &'a [u8],

@@ -1,6 +1,5 @@
 use Rattle.std.proofs.Common.{arith}
-use Rattle.std.proofs.lemmas.Result.{err_from_is_err_and}
-use Rattle.values.proofs.Steps.{element_in, array_fails, array_moves, array_ended}
+use Rattle.values.proofs.Steps.{stopped, element_in, array_fails, array_moves, array_ended}
 use Rattle.values.proofs.walk.Walk.array.Goals as goal
 
 pub bounds-self-element : goal.bounds-self-element
@@ -8,9 +7,8 @@ bounds-self-element g c = element_in g.O.ByteOrder.ordered c.args.self.now c.req
 
 pub returns-in_err-span : goal.returns-in_err-span
 returns-in_err-span g c =
-    let p = err_from_is_err_and c.from_residual.result c.from_residual.ensures.1 in
     let l = rw (c.place.ensures.area, c.place.ensures.at, c.place.ensures.around) at c.in_err-span.ensures in
-    rw (p.1, p.2) (array_fails g.O.ByteOrder.ordered c.args.self.now c.requires c.alignment_of-alignment.result c.alignment_of-alignment.ensures c.in_err-span.field-0.0 l)
+    stopped _ c.from_residual.result c.from_residual.ensures.1 (array_fails g.O.ByteOrder.ordered c.args.self.now c.requires c.alignment_of-alignment.result c.alignment_of-alignment.ensures c.in_err-span.field-0.0 l)
 
 pub returns-then-span : goal.returns-then-span
 returns-then-span g c =
