@@ -38,7 +38,7 @@ pub enum Alignment {
     Eight = 8,
 }
 
-// A byte that is not the code that was asked for.
+// A byte that is the code of no type.
 #[derive(Clone, Copy, PartialEq, Eq, Debug)]
 pub struct NoCode;
 
