@@ -82,31 +82,30 @@ module _ (ordered : List ℕ → List ℕ) (w : Walk) where
   abbrev V : ℕ → Around → Tree → ℕ → Result ℕ Flaw → Type 0
   V e k t p r = Value ordered b (depth_of k) (limit e k) t p r
 
-  -- the head of what is to be read
-  module _ (x : Head) (s : AtHead x w) where
-    room : length area ≡ w.end
-    room = length-take-le w.end b (end_in w s.value s.here)
+  room : w.stands ≡ AtValue → Somewhere w → length area ≡ w.end
+  room value here = length-take-le w.end b (end_in w value here)
 
-    module _ {e : ℕ} (i : Element) (k : Around) (h : Of e (at_value i k) w) where
-      shaped : Shape x i h.tied.1 (drop (w.code + 1) b)
-      shaped = shape_at b i h.tied.1 w.code x h.tied.2 s.head
+  module _ {e : ℕ} (i : Element) (k : Around) (h : Of e (at_value i k) w) where
+    -- the head of what is to be read
+    shaped : (x : Head) → AtHead x w → Shape x i h.tied.1 (drop (w.code + 1) b)
+    shaped x s = shape_at b i h.tied.1 w.code x h.tied.2 s.head
 
-      -- from the depth and the end of the walk to those of what is around
-      moved : (P : ℕ → ℕ → Type 0) → P deep w.end → P (depth_of k) (limit e k)
-      moved P y = subst (λ (m : ℕ). P (depth_of k) m) h.limited (subst (λ (m : ℕ). P m w.end) (depth_is b w.codes_end e k w.frames.items h.tied.1 h.tied.3) y)
+    -- from the depth and the end of the walk to those of what is around
+    moved : (P : ℕ → ℕ → Type 0) → P deep w.end → P (depth_of k) (limit e k)
+    moved P y = subst (λ (m : ℕ). P (depth_of k) m) h.limited (subst (λ (m : ℕ). P m w.end) (depth_is b w.codes_end e k w.frames.items h.tied.1 h.tied.3) y)
 
-      valued : (T : Tree) → lies_as i ≡ T → (r : Result ℕ Flaw) → V e k T w.at r → V e k (lies_as i) w.at r
-      valued T same r v = subst (λ (u : Tree). V e k u w.at r) (sym same) v
+    valued : (T : Tree) → lies_as i ≡ T → (r : Result ℕ Flaw) → V e k T w.at r → V e k (lies_as i) w.at r
+    valued T same r v = subst (λ (u : Tree). V e k u w.at r) (sym same) v
 
   -- a basic value
   module _ (c : Basic) (s : AtHead (head.Basic c) w) where
     module _ {e : ℕ} (i : Element) (k : Around) (h : Of e (at_value i k) w) where
       basic_is : (lies_as i ≡ basic c) × (h.tied.1 ≡ drop (w.code + 1) b)
-      basic_is = at_basic (shaped (head.Basic c) s i k h)
+      basic_is = at_basic (shaped i k h (head.Basic c) s)
 
       basic_value : (r : Result ℕ Flaw) → Leaf area ordered c deep w.at r → V e k (lies_as i) w.at r
       basic_value r l =
-          valued (head.Basic c) s i k h (basic c) basic_is.0 r (leaf (moved (head.Basic c) s i k h (λ (d m : ℕ). Leaf (take m b) ordered c d w.at r) l))
+          valued i k h (basic c) basic_is.0 r (leaf (moved i k h (λ (d m : ℕ). Leaf (take m b) ordered c d w.at r) l))
 
     pub basic_fails : (f : Flaw) → Leaf area ordered c deep w.at (Err f) → Fails ordered w f
     basic_fails f l e o h = by_value w s.value (λ o. Comes ordered b e o w.at (Err f)) (λ i k h. inr (f, basic_value i k h (Err f) l, refl)) o h
@@ -116,7 +115,7 @@ module _ (ordered : List ℕ → List ℕ) (w : Walk) where
       basic_taken = record w { code = w.code + 1; at = q; stands = PastValue }
 
       basic_ends : (w.at < q) × (q ≤ w.end)
-      basic_ends = let m = leaf_moves area ordered c deep w.at q l in (m.0, omega (arith, m.1, room (head.Basic c) s))
+      basic_ends = let m = leaf_moves area ordered c deep w.at q l in (m.0, omega (arith, m.1, room s.value s.here))
 
       basic_goes : {e : ℕ} (i : Element) (k : Around) → Of e (at_value i k) w → Went ordered e (at_value i k) w basic_taken
       basic_goes {e} i k h =
@@ -140,23 +139,25 @@ module _ (ordered : List ℕ → List ℕ) (w : Walk) where
       }
 
   -- a struct or a dict entry
-  module _ (x : Head) (s : AtHead x w) (sx : (x ≡ head.Struct) ⊎ (x ≡ head.Entry)) where
+  module _ (s : AtHead head.Struct w ⊎ AtHead head.Entry w) where
+    value : w.stands ≡ AtValue
+    value = ⊎_elim (λ a. a.value) (λ a. a.value) s
+
+    here : Somewhere w
+    here = ⊎_elim (λ a. a.here) (λ a. a.here) s
+
     module _ {e : ℕ} (i : Element) (k : Around) (h : Of e (at_value i k) w) where
       opens : Opens i h.tied.1 (drop (w.code + 1) b)
-      opens =
-          ⊎_elim
-          (λ z. at_struct (subst (λ (y : Head). Shape y i h.tied.1 (drop (w.code + 1) b)) z (shaped x s i k h)))
-          (λ z. at_entry (subst (λ (y : Head). Shape y i h.tied.1 (drop (w.code + 1) b)) z (shaped x s i k h)))
-          sx
+      opens = ⊎_elim (λ a. at_struct (shaped i k h head.Struct a)) (λ a. at_entry (shaped i k h head.Entry a)) s
 
       opened : (r : Result ℕ Flaw) → Opened area deep w.at r → Opened (take (limit e k) b) (depth_of k) w.at r
-      opened r l = moved x s i k h (λ (d m : ℕ). Opened (take m b) d w.at r) l
+      opened r l = moved i k h (λ (d m : ℕ). Opened (take m b) d w.at r) l
 
     pub struct_fails : (f : Flaw) → Opened area deep w.at (Err f) → Fails ordered w f
     struct_fails f p e o h =
-        by_value w s.value
+        by_value w value
         (λ o. Comes ordered b e o w.at (Err f))
-        (λ i k h. let v = opens i k h in inr (f, valued x s i k h (struct v.first v.others) v.lies (Err f) (struct_bad (opened i k h (Err f) p)), refl))
+        (λ i k h. let v = opens i k h in inr (f, valued i k h (struct v.first v.others) v.lies (Err f) (struct_bad (opened i k h (Err f) p)), refl))
         o h
 
     module _ (q : ℕ) (p : Opened area deep w.at (Ok q)) (fr : ArrayVec Frame) (pushed : fr.items ≡ w.frames.items ++ Struct ∷ []) where
@@ -164,7 +165,7 @@ module _ (ordered : List ℕ → List ℕ) (w : Walk) where
       struct_begun = record w { frames = fr; code = w.code + 1; at = q }
 
       struct_ends : (w.at ≤ q) × (q ≤ w.end)
-      struct_ends = let m = opened_moves area deep w.at q p in (m.0, omega (arith, m.1, room x s))
+      struct_ends = let m = opened_moves area deep w.at q p in (m.0, omega (arith, m.1, room value here))
 
       struct_goes : {e : ℕ} (i : Element) (k : Around) → Of e (at_value i k) w → Went ordered e (at_value i k) w struct_begun
       struct_goes {e} i k h =
@@ -178,26 +179,26 @@ module _ (ordered : List ℕ → List ℕ) (w : Walk) where
               within = h.within;
               limited = h.limited;
               place = struct_ends.1;
-              tied = (s.value, spell_all v.others (v.bracket ∷ ys), v.spells, (w.frames.items, pushed, v.bracket, ys, v.closing, refl, h.tied.3));
+              tied = (value, spell_all v.others (v.bracket ∷ ys), v.spells, (w.frames.items, pushed, v.bracket, ys, v.closing, refl, h.tied.3));
             };
             comes = λ r z. joined
                 (Value ordered b (d + 1) (limit e k) v.first q) (λ y. Values ordered b (d + 1) (limit e k) v.others y) (Rest ordered b e k)
                 (V e k (lies_as i) w.at)
-                (λ y t a u. valued x s i k h (struct v.first v.others) v.lies t (struct_is q (opened i k h (Ok q) p) (goes y a u)))
-                (λ f a. valued x s i k h (struct v.first v.others) v.lies (Err f) (struct_is q (opened i k h (Ok q) p) (fails a)))
+                (λ y t a u. valued i k h (struct v.first v.others) v.lies t (struct_is q (opened i k h (Ok q) p) (goes y a u)))
+                (λ f a. valued i k h (struct v.first v.others) v.lies (Err f) (struct_is q (opened i k h (Ok q) p) (fails a)))
                 r z;
           }
 
       pub struct_moves : length b < 2 ^ 64 → Moved ordered w struct_begun
       struct_moves short = record {
-        goes = λ e o h. by_value w s.value (λ o. Went ordered e o w struct_begun) struct_goes o h;
-        falls = fall_code (length b) w.at deep w.code short q (length fr.items) (w.code + 1) w.stands s.value struct_ends.0 (omega arith) (code_in w s.value s.here);
+        goes = λ e o h. by_value w value (λ o. Went ordered e o w struct_begun) struct_goes o h;
+        falls = fall_code (length b) w.at deep w.code short q (length fr.items) (w.code + 1) w.stands value struct_ends.0 (omega arith) (code_in w value here);
       }
 
   -- an array
   module _ (s : AtHead head.Array w) where
     element : {e : ℕ} (i : Element) (k : Around) (h : Of e (at_value i k) w) → (f : Element) × (lies_as i ≡ array f) × (spell_element f h.tied.1 ≡ drop (w.code + 1) b)
-    element i k h = at_array (shaped head.Array s i k h)
+    element i k h = at_array (shaped i k h head.Array s)
 
     pub element_in : w.code + 1 < length b
     element_in =
@@ -212,18 +213,18 @@ module _ (ordered : List ℕ → List ℕ) (w : Walk) where
       spread {e} i k h r p =
           let j = element i k h in
           let same = al (head_of_element j.0) (element_begins j.0 h.tied.1 (drop (w.code + 1 + 1) b) (get_or b (w.code + 1) 0) (with_code b j.0 h.tied.1 (w.code + 1) j.2)) in
-          subst (λ (z : Alignment). Headed (take (limit e k) b) ordered z (depth_of k) w.at r) same (moved head.Array s i k h (λ (d m : ℕ). Headed (take m b) ordered a d w.at r) p)
+          subst (λ (z : Alignment). Headed (take (limit e k) b) ordered z (depth_of k) w.at r) same (moved i k h (λ (d m : ℕ). Headed (take m b) ordered a d w.at r) p)
 
       pub array_fails : (f : Flaw) → Headed area ordered a deep w.at (Err f) → Fails ordered w f
       array_fails f p e o h =
           by_value w s.value
           (λ o. Comes ordered b e o w.at (Err f))
-          (λ i k h. let j = element i k h in inr (f, valued head.Array s i k h (array j.0) j.1 (Err f) (array_bad (spread i k h (Err f) p)), refl))
+          (λ i k h. let j = element i k h in inr (f, valued i k h (array j.0) j.1 (Err f) (array_bad (spread i k h (Err f) p)), refl))
           o h
 
       module _ (t : Span) (p : Headed area ordered a deep w.at (Ok t)) where
         array_ends : (w.at < t.from) × (t.from ≤ t.to) × (t.to ≤ w.end) × (deep ≤ 64)
-        array_ends = let m = headed_moves area ordered a deep w.at t p in (m.0, m.1, omega (arith, m.2, room head.Array s), m.3)
+        array_ends = let m = headed_moves area ordered a deep w.at t p in (m.0, m.1, omega (arith, m.2, room s.value s.here), m.3)
 
         module _ (fr : ArrayVec Frame) (pushed : fr.items ≡ w.frames.items ++ Array (w.code + 1) w.end ∷ []) where
           abbrev array_begun : Walk
@@ -252,8 +253,8 @@ module _ (ordered : List ℕ → List ℕ) (w : Walk) where
                 comes = λ r z. joined
                     (Value ordered b (d + 1) t.to (lies_as j.0) t.from) (λ y. Elements ordered b (d + 1) t.to j.0 y) (Rest ordered b e k)
                     (V e k (lies_as i) w.at)
-                    (λ y u a₁ a₂. valued head.Array s i k h (array j.0) j.1 u (array_is t hd (one_more y lt a₁ a₂)))
-                    (λ f a₁. valued head.Array s i k h (array j.0) j.1 (Err f) (array_is t hd (bad_one lt a₁)))
+                    (λ y u a₁ a₂. valued i k h (array j.0) j.1 u (array_is t hd (one_more y lt a₁ a₂)))
+                    (λ f a₁. valued i k h (array j.0) j.1 (Err f) (array_is t hd (bad_one lt a₁)))
                     r z;
               }
 
@@ -282,7 +283,7 @@ module _ (ordered : List ℕ → List ℕ) (w : Walk) where
                   place = omega (arith, eq, array_ends.2);
                   tied = (refl, zl, subst (λ (xs : List ℕ). Stacked b w.codes_end e k w.frames.items xs) (sym (ze j.0 ys j.2)) h.tied.3);
                 };
-                comes = λ r y. inl (t.from, valued head.Array s i k h (array j.0) j.1 (Ok t.from) (array_is t (spread i k h (Ok t) p) els), y);
+                comes = λ r y. inl (t.from, valued i k h (array j.0) j.1 (Ok t.from) (array_is t (spread i k h (Ok t) p) els), y);
               }
 
           pub array_ended : t.to ≤ t.from → length b < 2 ^ 64 → Moved ordered w array_passed
@@ -297,13 +298,13 @@ module _ (ordered : List ℕ → List ℕ) (w : Walk) where
   -- a variant
   module _ (s : AtHead head.Variant w) where
     variant_there : {e : ℕ} (i : Element) (k : Around) (h : Of e (at_value i k) w) → (lies_as i ≡ variant) × (h.tied.1 ≡ drop (w.code + 1) b)
-    variant_there i k h = at_variant (shaped head.Variant s i k h)
+    variant_there i k h = at_variant (shaped i k h head.Variant s)
 
     pub variant_fails : (f : Flaw) → Typed area deep w.at (Err f) → Fails ordered w f
     variant_fails f p e o h =
         by_value w s.value
         (λ o. Comes ordered b e o w.at (Err f))
-        (λ i k h. inr (f, valued head.Variant s i k h variant (variant_there i k h).0 (Err f) (variant_bad (moved head.Variant s i k h (λ (d m : ℕ). Typed (take m b) d w.at (Err f)) p)), refl))
+        (λ i k h. inr (f, valued i k h variant (variant_there i k h).0 (Err f) (variant_bad (moved i k h (λ (d m : ℕ). Typed (take m b) d w.at (Err f)) p)), refl))
         o h
 
     module _ (q : ℕ) (p : Typed area deep w.at (Ok q)) (fr : ArrayVec Frame) (pushed : fr.items ≡ w.frames.items ++ Variant (w.code + 1) ∷ []) where
@@ -311,7 +312,7 @@ module _ (ordered : List ℕ → List ℕ) (w : Walk) where
       variant_begun = record w { frames = fr; code = w.at + 1; at = q }
 
       variant_ends : (w.at + 2 ≤ q) × (q ≤ w.end) × (q ≡ w.at + 1 + get_or area w.at 0 + 1) × Single (codes_at area w.at) × (deep ≤ 64)
-      variant_ends = let m = typed_moves area deep w.at q p in (m.0, omega (arith, m.1, room head.Variant s), m.2, m.3, m.4)
+      variant_ends = let m = typed_moves area deep w.at q p in (m.0, omega (arith, m.1, room s.value s.here), m.2, m.3, m.4)
 
       -- its type, with what follows it in the message
       type_there : spell variant_ends.3.type (drop (get_or area w.at 0) (drop (w.at + 1) b)) ≡ drop (w.at + 1) b
@@ -338,8 +339,8 @@ module _ (ordered : List ℕ → List ℕ) (w : Walk) where
             };
             comes = λ r z. carried
                 (Value ordered b (depth_of k + 1) (limit e k) one.type q) (V e k (lies_as i) w.at) (Rest ordered b e k)
-                (λ y a. valued head.Variant s i k h variant v.0 y
-                (variant_is q (moved head.Variant s i k h (λ (d m : ℕ). Typed (take m b) d w.at (Ok q)) p) (subst (λ (m : ℕ). spell one.type [] ≡ codes_at (take m b) w.at) h.limited one.spells) a))
+                (λ y a. valued i k h variant v.0 y
+                (variant_is q (moved i k h (λ (d m : ℕ). Typed (take m b) d w.at (Ok q)) p) (subst (λ (m : ℕ). spell one.type [] ≡ codes_at (take m b) w.at) h.limited one.spells) a))
                 r z;
           }
 
