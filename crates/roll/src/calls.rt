@@ -38,7 +38,11 @@ impl MailboxSet for Roll {
     }
 
     fn count(&self, c: u8) -> usize {
-        Connection::try_from(c).map_or(0, |c| self.count_of(c))
+        // `map_or` leaves its closure's fact without a name, so that nothing can be cited
+        match Connection::try_from(c) {
+            Ok(c) => self.count_of(c),
+            Err(_) => 0,
+        }
     }
 
     // Reads as the shelf's does; `append` requires room, so it can be no member of the trait.
