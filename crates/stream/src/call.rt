@@ -78,8 +78,10 @@ fn read_bus(heap: Global, words: &mut Words) -> Result<Call, Fault>
     }
     let bytes = words.bytes(heap)?;
     words.end()?;
-    let id = <[u8; 16]>::try_from(bytes.as_slice()).map_err(|_| Fault::WrongLength)?;
-    Ok(Call::Bus { limit, id })
+    match <[u8; 16]>::try_from(bytes.as_slice()) {
+        Ok(id) => Ok(Call::Bus { limit, id }),
+        Err(_) => Err(Fault::WrongLength),
+    }
 }
 
 fn read_open(words: &mut Words) -> Result<Call, Fault>
