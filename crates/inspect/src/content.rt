@@ -115,7 +115,7 @@ pub fn content(heap: Global, bytes: &[u8], layout: Layout) -> Result<String, Fai
             known_field(&mut text, reader.moved_to(at), field)?;
         }
     }
-    unknown_fields(&mut text, &mut reader, FRAME_SIZE + frame.fields as usize)?;
+    unknown_fields(&mut text, &mut reader, frame.fields_end())?;
     reader.pad(Alignment::Eight);
     let types = types_of(reader, fields)?;
     if !types.is_empty() {
