@@ -1,10 +1,9 @@
 // Reading the frame of a message.
-ghost use Rattle.std.specs.Prelude.{◌≡◌, ◌+◌, ◌<◌, length, Decides, MatchResult};
+ghost use Rattle.std.specs.Prelude.{◌≡◌, ◌+◌, ◌^◌, ◌<◌, length, Decides, MatchResult};
 ghost use Rattle.items.specs.declared.fault.Cause.TheVariants.{TooShort};
 ghost use Rattle.items.specs.Faults.{flaw, Is};
-ghost use Rattle.items.specs.Items.{aligned};
 ghost use Rattle.frame.specs.Firsts.{FirstOf};
-ghost use Rattle.frame.specs.Frames.{Framed, Begun, frame_at};
+ghost use Rattle.frame.specs.Frames.{Framed, Begun, body_start, frame_at};
 
 use crate::kinds::{Kind, Order};
 use crate::{FRAME_SIZE, Frame};
@@ -85,13 +84,27 @@ fn begun(bytes: &[u8]) -> Result<Frame, Flaw>
 }
 
 impl Frame {
-    // Whether a message has just so many bytes: the frame, the fields and their padding, the body.
-    fn is_length(self, len: usize) -> bool
-        ensures { Decides result (len ≡ aligned 8 (FRAME_SIZE + self.fields) + self.body) }
+    // Where the fields end.
+    pub fn fields_end(self) -> usize
+        ensures { result ≡ FRAME_SIZE + self.fields }
     {
-        let end = FRAME_SIZE + self.fields as usize;
-        let start = end + gap(end, Alignment::Eight);
-        len == start + self.body as usize
+        FRAME_SIZE + self.fields as usize
+    }
+
+    // Where the body begins, behind the fields and their padding.
+    pub fn body_start(self) -> usize
+        ensures value { result ≡ body_start self }
+        ensures bound { result < 2 ^ 33 }
+    {
+        let end = self.fields_end();
+        end + gap(end, Alignment::Eight)
+    }
+
+    // Whether a message has just so many bytes.
+    fn is_length(self, len: usize) -> bool
+        ensures { Decides result (len ≡ body_start self + self.body) }
+    {
+        len == self.body_start() + self.body as usize
     }
 }
 

@@ -113,7 +113,7 @@ fn ordered<O: ByteOrder>(heap: Global, bytes: &[u8], layout: Layout) -> Result<S
             shown.known_field(field, at)?;
         }
     }
-    shown.unknown_fields(FRAME_SIZE + frame.fields as usize)?;
+    shown.unknown_fields(frame.fields_end())?;
     shown.reader.pad(Alignment::Eight);
     shown.body(fields)?;
     Ok(shown.text)

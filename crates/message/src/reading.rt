@@ -1,6 +1,5 @@
 // Reading a message.
 ghost use Rattle.std.specs.Prelude.{◌≡◌, ℕ, ◌+◌, ◌<◌, ◌≤◌, length, Some as Given, Decides};
-ghost use Rattle.frame.specs.Frames.{body_start};
 ghost use Rattle.fields.specs.declared.known.Field.TheVariants.{Signature as Types};
 ghost use Rattle.fields.specs.Headers.{place_of};
 ghost use Rattle.message.specs.Messages.{placed, codes_of, needed, Has, Complete, Contents, AfterFrame, Reading, Decided};
@@ -8,9 +7,8 @@ ghost use Rattle.message.specs.Messages.{placed, codes_of, needed, Has, Complete
 use crate::Layout;
 use fields::{Field, read_fields};
 use frame::{FRAME_SIZE, Frame, Kind, Order, read_frame};
-use items::{Cause, Fault, Flaw, Part, Span, gap};
+use items::{Cause, Fault, Flaw, Part, Span};
 use order::{Big, ByteOrder, Little};
-use signature::Alignment;
 use values::values;
 
 // A flaw in a part of the message is a fault.
@@ -70,9 +68,12 @@ impl Layout {
         requires { (p : ℕ) → place_of self.now.fields.places Types ≡ Given p → p < length bytes.now }
         ensures { Contents O.ByteOrder.ordered bytes.now self.now.frame self.now.fields result }
     {
-        let end = FRAME_SIZE + self.frame.fields as usize;
-        let start = end + gap(end, Alignment::Eight);
-        values::<O>(bytes, self.codes(bytes), start, bytes.len())
+        values::<O>(
+            bytes,
+            self.codes(bytes),
+            self.frame.body_start(),
+            bytes.len(),
+        )
     }
 }
 
@@ -80,10 +81,7 @@ impl Layout {
 fn behind<O: ByteOrder>(bytes: &[u8], frame: Frame) -> Result<Layout, Fault>
     ensures { AfterFrame O.ByteOrder.ordered bytes.now frame result }
 {
-    let fields = within(
-        Part::Fields,
-        read_fields::<O>(bytes, FRAME_SIZE + frame.fields as usize),
-    )?;
+    let fields = within(Part::Fields, read_fields::<O>(bytes, frame.fields_end()))?;
     let layout = Layout { frame, fields };
     let end = within(Part::Body, layout.contents::<O>(bytes))?;
     if !layout.is_complete() {
