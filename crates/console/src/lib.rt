@@ -35,7 +35,10 @@ impl fmt::Display for Misuse {
 
     fn fmt<W: fmt::Write>(&self, f: &mut fmt::Formatter<W>) -> fmt::Result {
         let Program { name, input, .. } = self.0;
-        write!(f, "{name} takes no argument but --help; the {input} on standard input")
+        write!(
+            f,
+            "{name} takes no argument but --help; the {input} on standard input"
+        )
     }
 }
 

@@ -10,10 +10,9 @@ use roll::Roll;
 use script::{Line, Wrong, read};
 use shelf::Shelf;
 use std::alloc::{AllocError, Global};
-use std::env;
-use std::fmt;
 use std::io::{BufRead, BufReader};
 use std::process::ExitCode;
+use std::{env, fmt};
 use steps::{Answers, Outcome, Step, compare};
 use stream::Hex;
 
