@@ -80,7 +80,8 @@ pub trait MailboxSet {
         ensures after { lists self.new ≡ put_after (bound self.old) (lists self.old) c message.now }
         ensures bound { bound self.new ≡ bound self.old };
 
-    // Removes the oldest message for c, writes it to the buffer's front, and answers its length; 0 where none waits.
+    // Removes the oldest message for c, writes it to the buffer's front, and answers its length; 0 where none waits,
+    // which is no message's length, and what hosts are to be answered.
     fn take(&mut self, c: u8, buffer: &mut [u8]) -> Result<usize, Refusal>
         ensures answer { result ≡ take_answer (waiting (lists self.old) c) (length buffer.old) }
         ensures after { lists self.new ≡ take_after (lists self.old) c (length buffer.old) }

@@ -62,7 +62,7 @@ pub(super) fn find(area: &[u8], records: usize, c: Connection) -> Option<Span>
 {
     let mut at = 0;
     // where a record begins is known only from the lengths of those before it
-    for _ in 0..records {
+    for _k in 0..records {
         let size = size_at(area, at);
         if area[at] == c.number {
             return Some(Span { at, size });
