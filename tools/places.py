@@ -1,5 +1,5 @@
 #!/usr/bin/env python3
-"""Lists the places of crates/*/src that eight questions of design are about, and counts them.
+"""Lists the places of crates/*/src that the eight points of docs/DESIGN-PASS.md are about, and counts them.
 
 Usage: tools/places.py [--count] [FOLDER]    FOLDER is a checkout, this one if none is named; --count prints numbers only
 
@@ -42,8 +42,10 @@ def heads(files):
                 continue
             indent = line[: len(line) - len(line.lstrip())]
             end = number
-            while not (lines[end] == indent + "}" or lines[end].rstrip().endswith(";")):
+            opened = lines[end].endswith("{")
+            while not (lines[end] == indent + "}" or lines[end].endswith(";") and not opened):
                 end += 1
+                opened = opened or lines[end].endswith("{")
             whole = lines[number : end + 1]
             cut = next((k for k, x in enumerate(whole) if x == indent + "{" or x.endswith("{")), len(whole) - 1)
             yield f"{name}:{number + 1}", start.group(1), whole[: cut + 1], whole[cut + 1 :]

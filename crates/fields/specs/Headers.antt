@@ -9,7 +9,7 @@ use Rattle.items.specs.declared.fault.Cause.TheVariants as cause
 use Rattle.items.specs.Faults.{Is, Provided, Then}
 use Rattle.items.specs.Items.{aligned, Pad, Typed, Item, codes_at, number_at, text_at}
 use Rattle.values.specs.Values.{Value}
-use Rattle.frame.specs.declared.TheConstants.{FRAME_SIZE}
+use Rattle.frame.specs.Firsts.{frame_size}
 use Rattle.fields.specs.declared.known.Field.{Field}
 use Rattle.fields.specs.declared.known.Field.TheVariants.{Path, Interface, Member, ErrorName, ReplySerial, Destination, Sender, Signature}
 use Rattle.fields.specs.declared.Fields.{Fields}
@@ -21,7 +21,7 @@ place_of places f = slice_index_or places (index_of f) None
 
 -- before the first field
 abbrev pub none_yet : Fields
-none_yet = record { places = replicate 8 None; at = FRAME_SIZE }
+none_yet = record { places = replicate 8 None; at = frame_size }
 
 -- a code that may stand here: an unknown one but 0 and 9, or a known one that was not read yet
 abbrev pub Free : List (Option ℕ) → ℕ → Option Field → Type 0
@@ -105,7 +105,7 @@ Padded bytes end s = Then (Pad bytes Eight end) (Closed s)
 -- the fields of a message, which end at `end`
 abbrev pub Header : (List ℕ → List ℕ) → List ℕ → ℕ → Result Fields Flaw → Type 0
 Header ordered bytes end =
-    Provided ((FRAME_SIZE ≤ end) × (end ≤ length bytes)) cause.PastEnd FRAME_SIZE (Then (AllFields ordered bytes end none_yet) (Padded bytes end))
+    Provided ((frame_size ≤ end) × (end ≤ length bytes)) cause.PastEnd frame_size (Then (AllFields ordered bytes end none_yet) (Padded bytes end))
 
 -- what the header has made sure of: the value of a known field lies well at p, and is as its field asks
 pub record Held (ordered : List ℕ → List ℕ) (area : List ℕ) (f : Field) (p : ℕ) : Type 0 where

@@ -1,9 +1,9 @@
--- Which values of fields begin with a number of 32 bits.
+-- Which values of fields are judged by a number of 32 bits at their front.
 use Rattle.std.specs.Prelude.{Bool, true, false, Some, None, Option}
 use Rattle.fields.specs.declared.known.Field.{Field}
 use Rattle.fields.specs.declared.known.Field.TheVariants.{Path, Interface, Member, ErrorName, ReplySerial, Destination, Sender, Signature}
 
--- a name begins with its length, and a serial is such a number
+-- the length of a name, and a serial
 abbrev pub has_word : Option Field → Bool
 has_word None = false
 has_word (Some Path) = false

@@ -5,9 +5,9 @@ use Rattle.items.specs.declared.fault.Cause.TheVariants.{TooShort, ByteOrder, No
 use Rattle.items.specs.Faults.{Is, Provided}
 use Rattle.items.specs.Items.{aligned, number_at}
 use Rattle.frame.specs.declared.Frame.{Frame}
-use Rattle.frame.specs.declared.TheConstants.{FRAME_SIZE}
 use Rattle.frame.specs.declared.kinds.Order.{Order}
 use Rattle.frame.specs.declared.kinds.Order.TheVariants.{Little, Big}
+use Rattle.frame.specs.Firsts.{frame_size}
 use Rattle.frame.specs.Kinds.{mark, ordered, kind_at}
 
 module _ (bytes : List ℕ) where
@@ -33,17 +33,17 @@ module _ (bytes : List ℕ) where
   abbrev pub Marked : Type 0
   Marked = (o : Order) × (mark o ≡ slice_index bytes 0)
 
-  -- the order, the type and the version are well, and K holds of what comes of the rest
+  -- the frame is whole, the order, the type and the version are well, and K holds of what comes of the rest
   abbrev pub Begun : (Result Frame Flaw → Type 0) → Result Frame Flaw → Type 0
   Begun K =
-      Provided (FRAME_SIZE ≤ length bytes) TooShort 0
+      Provided (frame_size ≤ length bytes) TooShort 0
       (Provided Marked ByteOrder 0
       (Provided (slice_index bytes 1 ≢ 0) NoType 1
       (Provided (slice_index bytes 3 ≡ 1) Version 3 K)))
 
 -- where the body begins
 abbrev pub body_start : Frame → ℕ
-body_start f = aligned 8 (FRAME_SIZE + f.fields)
+body_start f = aligned 8 (frame_size + f.fields)
 
 -- the frame of a message of at most so many bytes, or its flaw
 abbrev pub Framed : ℕ → List ℕ → Result Frame Flaw → Type 0

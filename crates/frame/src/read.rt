@@ -2,7 +2,7 @@
 ghost use Rattle.std.specs.Prelude.{◌≡◌, ◌+◌, ◌^◌, ◌<◌, length, Decides, MatchResult};
 ghost use Rattle.items.specs.declared.fault.Cause.TheVariants.{TooShort};
 ghost use Rattle.items.specs.Faults.{flaw, Is};
-ghost use Rattle.frame.specs.Firsts.{FirstOf};
+ghost use Rattle.frame.specs.Firsts.{FirstOf, frame_size};
 ghost use Rattle.frame.specs.Frames.{Framed, Begun, body_start, frame_at};
 
 use crate::kinds::{Kind, Order};
@@ -13,7 +13,7 @@ use signature::Alignment;
 // The version of the format.
 const VERSION: u8 = 1;
 
-// The first 16 bytes, one by one.
+// The first 16 bytes, one by one. One pattern takes them all, since what it binds is known to a proof.
 #[derive(Clone, Copy)]
 pub(crate) struct First {
     mark: u8,
@@ -27,7 +27,7 @@ pub(crate) struct First {
 
 impl First {
     fn of(bytes: &[u8]) -> Result<First, Flaw>
-        ensures { MatchResult result (λ x. FirstOf bytes.now x) (λ f. (length bytes.now < FRAME_SIZE) × (f ≡ flaw TooShort 0)) }
+        ensures { MatchResult result (λ x. FirstOf bytes.now x) (λ f. (length bytes.now < frame_size) × (f ≡ flaw TooShort 0)) }
     {
         let [
             mark,
@@ -86,7 +86,7 @@ fn begun(bytes: &[u8]) -> Result<Frame, Flaw>
 impl Frame {
     // Where the fields end.
     pub fn fields_end(self) -> usize
-        ensures { result ≡ FRAME_SIZE + self.fields }
+        ensures { result ≡ frame_size + self.fields }
     {
         FRAME_SIZE + self.fields as usize
     }

@@ -27,7 +27,7 @@ fn is_printable(line: &[u8]) -> bool
     line.iter().all(|b| matches!(b, b' '..=b'~'))
 }
 
-// Where the first space is.
+// Where the first space is; a function of its own, since what `position` says is lost in the arms of a match.
 fn first_space(line: &[u8]) -> Option<usize>
     ensures { result ≡ position (λ b. b == 32) line.now }
 {

@@ -5,7 +5,7 @@ use crate::value::{LEVELS, Shown};
 use crate::words::{InWords, Plain};
 use fields::{Field, Fields};
 use frame::{FRAME_SIZE, Order};
-use message::Layout;
+use message::{Layout, Message};
 use order::{Big, ByteOrder, Little};
 use signature::{Alignment, Basic};
 use std::alloc::Global;
@@ -70,7 +70,7 @@ impl<O: ByteOrder> Shown<'_, O> {
 
     // Shows the unknown ones of the fields up to `end`.
     fn unknown_fields(&mut self, end: usize) -> Result<(), Failure> {
-        // no contract says that a field takes a byte, which it does, so the turns are counted
+        // that showing a field never steps back is not known here, so this loop ends by the bytes of the fields
         for _ in self.reader.at()..end {
             if self.reader.at() >= end {
                 break;
@@ -102,7 +102,8 @@ impl<O: ByteOrder> Shown<'_, O> {
 }
 
 // The content of a message whose numbers lie in the order O.
-fn ordered<O: ByteOrder>(heap: Global, bytes: &[u8], layout: Layout) -> Result<String, Failure> {
+fn ordered<O: ByteOrder>(heap: Global, message: Message<'_>) -> Result<String, Failure> {
+    let Message { bytes, layout } = message;
     let Layout { frame, fields } = layout;
     let mut shown = Shown {
         reader: Reader::<O>::new(bytes, FRAME_SIZE),
@@ -120,9 +121,9 @@ fn ordered<O: ByteOrder>(heap: Global, bytes: &[u8], layout: Layout) -> Result<S
 }
 
 // What a message holds: a line of its frame, and one of each field and the body.
-pub fn content(heap: Global, bytes: &[u8], layout: Layout) -> Result<String, Failure> {
-    match layout.frame.order {
-        Order::Little => ordered::<Little>(heap, bytes, layout),
-        Order::Big => ordered::<Big>(heap, bytes, layout),
+pub fn content(heap: Global, message: Message<'_>) -> Result<String, Failure> {
+    match message.layout.frame.order {
+        Order::Little => ordered::<Little>(heap, message),
+        Order::Big => ordered::<Big>(heap, message),
     }
 }

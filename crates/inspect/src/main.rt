@@ -30,7 +30,7 @@ const PROGRAM: Program = Program {
     input: "messages come",
 };
 
-// How many messages were valid and faulty.
+// How many messages were valid and faulty. The names are what is printed.
 #[derive(Clone, Copy, Default)]
 struct Score {
     valid: u64,
@@ -78,7 +78,8 @@ fn work(rt: &HostRuntime) -> anyhow::Result<()> {
     Ok(())
 }
 
-// Each program says this for itself: a shared function that is given the work would need a `requires`.
+// Each program says this for itself: a shared function that is given the work as a closure would need a `requires`, and a
+// trait for it would be longer than these lines.
 fn run(rt: &HostRuntime) -> anyhow::Result<()> {
     match PROGRAM.request(env::args(rt)?.nth(1).as_deref())? {
         Request::Help => rt.print(PROGRAM.help)?,

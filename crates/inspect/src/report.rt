@@ -2,7 +2,7 @@
 use crate::content::content;
 use crate::failure::Failure;
 use items::Fault;
-use message::read;
+use message::check;
 use std::alloc::Global;
 use stream::unhex;
 
@@ -20,8 +20,8 @@ fn bytes_of(heap: Global, line: &str) -> Result<Vec<u8>, Failure> {
 // What the message holds that a line of hex digits spells, or what is wrong with bytes that are none.
 pub fn report_on(heap: Global, line: &str) -> Result<Result<String, Fault>, Failure> {
     let bytes = bytes_of(heap, line)?;
-    match read(bytes.as_slice(), LIMIT) {
-        Ok(layout) => Ok(Ok(content(heap, bytes.as_slice(), layout)?)),
+    match check(bytes.as_slice(), LIMIT) {
+        Ok(message) => Ok(Ok(content(heap, message)?)),
         Err(fault) => Ok(Err(fault)),
     }
 }

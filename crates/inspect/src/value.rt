@@ -118,7 +118,7 @@ impl<O: ByteOrder> Shown<'_, O> {
         let end = self.reader.at().saturating_add(size);
         self.text.push(open)?;
         let mut before = "";
-        // no contract says that an element takes a byte, which it does, so the turns are counted
+        // codes that are no type could show a value of no bytes, so this loop ends by the bytes of the array
         for _ in 0..size {
             if self.reader.at() >= end {
                 break;

@@ -41,7 +41,7 @@ pub struct Flaw {
     pub byte: usize,
 }
 
-// The same, with the part of the message.
+// The same, with the part of the message; flat, as it is told.
 #[derive(Clone, Copy, PartialEq, Eq, Debug)]
 pub struct Fault {
     pub part: Part,

@@ -7,7 +7,7 @@ mod read;
 pub use fault::{Cause, Fault, Flaw, Part};
 pub use read::{Place, gap};
 
-// The bytes from one place up to another.
+// The bytes from one place up to another; a type of its own, since a Range is no Copy.
 #[derive(Clone, Copy)]
 pub struct Span {
     pub from: usize,

@@ -30,7 +30,7 @@ const PROGRAM: Program = Program {
     input: "questions come",
 };
 
-// How many questions were answered by yes and by no.
+// How many questions were answered by yes and by no. The names are what is printed.
 #[derive(Clone, Copy, Default)]
 struct Score {
     yes: u64,
@@ -82,7 +82,8 @@ fn work(rt: &HostRuntime) -> anyhow::Result<()> {
     Ok(())
 }
 
-// Each program says this for itself: a shared function that is given the work would need a `requires`.
+// Each program says this for itself: a shared function that is given the work as a closure would need a `requires`, and a
+// trait for it would be longer than these lines.
 fn run(rt: &HostRuntime) -> anyhow::Result<()> {
     match PROGRAM.request(env::args(rt)?.nth(1).as_deref())? {
         Request::Help => rt.print(PROGRAM.help)?,

@@ -4,6 +4,7 @@
 mod script;
 
 use anyhow::{Context, anyhow};
+use connection::CONNECTIONS;
 use console::{Program, Request};
 use mailbox::MailboxSet;
 use roll::Roll;
@@ -32,7 +33,8 @@ const PROGRAM: Program = Program {
 
 const DIFFERS: &str = ", but the roll differs";
 
-// The bytes of area for each message that may wait, in either kind.
+// The bytes of area for each message that may wait, in either kind, as the sets' limits are told; not their own constants,
+// so that a wrong one shows.
 const SHELF_PLACE: usize = 16_384;
 
 const ROLL_PLACE: usize = 16_432;
@@ -138,7 +140,7 @@ fn renew(rt: &HostRuntime, limit: usize, score: &mut Score) -> anyhow::Result<Ro
 }
 
 fn print_waiting(rt: &HostRuntime, room: &Room) -> anyhow::Result<()> {
-    for c in 0..16u8 {
+    for c in (0u8..).take(CONNECTIONS) {
         let n = room.shelf.count(c);
         if n > 0 {
             println!(rt; "waiting for {c}: {n}")?;
@@ -207,7 +209,8 @@ fn work(rt: &HostRuntime) -> anyhow::Result<()> {
     Ok(())
 }
 
-// Each program says this for itself: a shared function that is given the work would need a `requires`.
+// Each program says this for itself: a shared function that is given the work as a closure would need a `requires`, and a
+// trait for it would be longer than these lines.
 fn run(rt: &HostRuntime) -> anyhow::Result<()> {
     match PROGRAM.request(env::args(rt)?.nth(1).as_deref())? {
         Request::Help => rt.print(PROGRAM.help)?,

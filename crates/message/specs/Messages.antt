@@ -10,7 +10,7 @@ use Rattle.items.specs.declared.fault.Part.TheVariants as part
 use Rattle.items.specs.Faults.{Is, Provided, Then}
 use Rattle.values.specs.Values.{Read}
 use Rattle.frame.specs.declared.Frame.{Frame}
-use Rattle.frame.specs.declared.TheConstants.{FRAME_SIZE}
+use Rattle.frame.specs.Firsts.{frame_size}
 use Rattle.frame.specs.declared.kinds.Kind.{Kind}
 use Rattle.frame.specs.declared.kinds.Kind.TheVariants.{Call, Return, Error, Signal, Other}
 use Rattle.frame.specs.Frames.{Framed, body_start}
@@ -50,7 +50,7 @@ Complete kind places = AllByRecursion (Has places) (needed kind)
 
 -- after the values, which end at q: no needed field is missing, and nothing is left over
 abbrev pub Whole : Frame → Fields → ℕ → Result ℕ Flaw → Type 0
-Whole f s q = Provided (Complete f.kind s.places) MissingField FRAME_SIZE (Is q)
+Whole f s q = Provided (Complete f.kind s.places) MissingField frame_size (Is q)
 
 abbrev pub Filled : List ℕ → Frame → Fields → ℕ → Result Layout Flaw → Type 0
 Filled bytes f s q = Provided (q ≡ length bytes) LeftOver q (Is (record { frame = f; fields = s }))
@@ -70,7 +70,7 @@ module _ (order : List ℕ → List ℕ) (bytes : List ℕ) (f : Frame) where
   AfterFields s = Then (In part.Body (Contents s)) (AfterValues s)
 
   abbrev pub AfterFrame : Result Layout Fault → Type 0
-  AfterFrame = Then (In part.Fields (Header order bytes (FRAME_SIZE + f.fields))) AfterFields
+  AfterFrame = Then (In part.Fields (Header order bytes (frame_size + f.fields))) AfterFields
 
 -- a frame decides the order of all that follows
 abbrev pub Framing : List ℕ → Frame → Result Layout Fault → Type 0

@@ -8,6 +8,7 @@ ghost use Rattle.order.specs.Numbers.{Byte, Keeps, Mirrors, as_they_lie, number,
 ghost use Rattle.order.specs.Spreads.{all_reverse};
 
 // An order of bytes. Code over any order is proved once, from its laws.
+// Each width has its own functions: a method of a trait with a const parameter cannot be stated today.
 pub trait ByteOrder {
     // the bytes as they lie, put the least significant first; and back
     ghost ordered: { List ℕ → List ℕ };

@@ -29,7 +29,7 @@ impl From<AllocError> for Unmade {
     }
 }
 
-// A refusal as a row has it.
+// A refusal as a row has it; no `From`, since both types are of other crates.
 fn recorded(refusal: LifeRefusal) -> Refusal
     ensures { number_of result ≡ numbered refusal }
 {

@@ -26,6 +26,8 @@ impl Roll {
     }
 }
 
+// `count`, `put` and `take` read as the shelf's do. As bodies in the trait they would need its steps there, which are not for
+// hosts to call.
 impl MailboxSet for Roll {
     ghost lists = { lists_of };
 
@@ -45,7 +47,6 @@ impl MailboxSet for Roll {
         }
     }
 
-    // Reads as the shelf's does; `append` requires room, so it can be no member of the trait.
     fn put(&mut self, c: u8, message: &[u8]) -> Result<(), Refusal> {
         let c = Connection::try_from(c)?;
         let message = Message::try_from(message)?;

@@ -78,7 +78,8 @@ fn work(rt: &HostRuntime) -> anyhow::Result<()> {
     Ok(())
 }
 
-// Each program says this for itself: a shared function that is given the work would need a `requires`.
+// Each program says this for itself: a shared function that is given the work as a closure would need a `requires`, and a
+// trait for it would be longer than these lines.
 fn run(rt: &HostRuntime) -> anyhow::Result<()> {
     match PROGRAM.request(env::args(rt)?.nth(1).as_deref())? {
         Request::Help => rt.print(PROGRAM.help)?,

@@ -30,6 +30,8 @@ impl Shelf {
     }
 }
 
+// `count`, `put` and `take` read as the roll's do. As bodies in the trait they would need its steps there, which are not for
+// hosts to call.
 impl MailboxSet for Shelf {
     ghost lists = { lists_of };
 
@@ -49,7 +51,6 @@ impl MailboxSet for Shelf {
         }
     }
 
-    // Reads as the roll's does; `append` requires room, so it can be no member of the trait.
     fn put(&mut self, c: u8, message: &[u8]) -> Result<(), Refusal> {
         let c = Connection::try_from(c)?;
         let message = Message::try_from(message)?;

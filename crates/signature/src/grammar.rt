@@ -13,7 +13,7 @@ const LONGEST: usize = 255;
 const DEEPEST: usize = 32;
 
 // What follows the complete type at the front, if there is one with at most so many arrays and structs.
-// The two numbers stay two: each step inside lowers one of them, or neither.
+// The two numbers stay two: each step inside lowers one of them, or neither, so a struct of both would be taken apart at each.
 #[cycle(complete_element_entry_members)]
 fn complete(s: &[u8], arrays: usize, structs: usize) -> Option<&[u8]>
     ensures { MatchOption result ((left : List ℕ) → TypeAt s.now arrays structs left → ⊥) (λ left. TypeAt s.now arrays structs left.now) }

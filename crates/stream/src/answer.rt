@@ -55,11 +55,11 @@ fn read_done(words: &mut Words) -> Result<Answer, Fault>
     Ok(Answer::Done)
 }
 
-fn read_wrote(heap: Global, words: &mut Words) -> Result<Answer, Fault>
+fn read_wrote(words: &mut Words) -> Result<Answer, Fault>
     ensures { Accepted Form.Bytes (left words.old) result }
 {
     let count: u16 = words.number()?;
-    let bytes = words.bytes(heap)?;
+    let bytes = words.bytes()?;
     words.end()?;
     if bytes.len() == usize::from(count) {
         Ok(Answer::Wrote(bytes))
@@ -78,12 +78,12 @@ fn read_routed(words: &mut Words) -> Result<Answer, Fault>
 }
 
 // The answer of an accepted call, from the words after `=`.
-fn read_accepted(heap: Global, form: Form, words: &mut Words) -> Result<Answer, Fault>
+fn read_accepted(form: Form, words: &mut Words) -> Result<Answer, Fault>
     ensures { Accepted form (left words.old) result }
 {
     match form {
         Form::Nothing => read_done(words),
-        Form::Bytes => read_wrote(heap, words),
+        Form::Bytes => read_wrote(words),
         Form::Counts => read_routed(words),
     }
 }
@@ -115,10 +115,10 @@ fn read_refused(words: &mut Words) -> Result<Answer, Fault>
 pub fn read_answer(heap: Global, form: Form, row: &[u8]) -> Result<Answer, Fault>
     ensures { Reads form row.now result }
 {
-    let mut words = Words::new(row);
+    let mut words = Words::new(heap, row);
     let mark = words.next().ok_or(Fault::NoSuchRow)?;
     match mark {
-        b"=" => read_accepted(heap, form, &mut words),
+        b"=" => read_accepted(form, &mut words),
         b"!" => read_refused(&mut words),
         _ => Err(Fault::NoSuchRow),
     }

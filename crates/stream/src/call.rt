@@ -69,14 +69,15 @@ impl Call {
     }
 }
 
-fn read_bus(heap: Global, words: &mut Words) -> Result<Call, Fault>
+// A reader for each verb: they read alike, and make another call each.
+fn read_bus(words: &mut Words) -> Result<Call, Fault>
     ensures { Arguments Verb.Bus (left words.old) result }
 {
     let limit = words.number()?;
     if limit > 16 {
         return Err(Fault::BadNumber);
     }
-    let bytes = words.bytes(heap)?;
+    let bytes = words.bytes()?;
     words.end()?;
     match <[u8; 16]>::try_from(bytes.as_slice()) {
         Ok(id) => Ok(Call::Bus { limit, id }),
@@ -93,11 +94,11 @@ fn read_open(words: &mut Words) -> Result<Call, Fault>
     Ok(Call::Open { connection, uid })
 }
 
-fn read_line(heap: Global, words: &mut Words) -> Result<Call, Fault>
+fn read_line(words: &mut Words) -> Result<Call, Fault>
     ensures { Arguments Verb.Line (left words.old) result }
 {
     let connection = words.number()?;
-    let bytes = words.bytes(heap)?;
+    let bytes = words.bytes()?;
     let size = words.number()?;
     words.end()?;
     Ok(Call::Line {
@@ -107,11 +108,11 @@ fn read_line(heap: Global, words: &mut Words) -> Result<Call, Fault>
     })
 }
 
-fn read_message(heap: Global, words: &mut Words) -> Result<Call, Fault>
+fn read_message(words: &mut Words) -> Result<Call, Fault>
     ensures { Arguments Verb.Message (left words.old) result }
 {
     let connection = words.number()?;
-    let bytes = words.bytes(heap)?;
+    let bytes = words.bytes()?;
     words.end()?;
     Ok(Call::Message { connection, bytes })
 }
@@ -141,15 +142,15 @@ fn read_close(words: &mut Words) -> Result<Call, Fault>
     Ok(Call::Close { connection })
 }
 
-// The call of a verb, from the words that follow. The heap is apart from the words, which allocate nothing.
-fn read_arguments(heap: Global, verb: Verb, words: &mut Words) -> Result<Call, Fault>
+// The call of a verb, from the words that follow.
+fn read_arguments(verb: Verb, words: &mut Words) -> Result<Call, Fault>
     ensures { Arguments verb (left words.old) result }
 {
     match verb {
-        Verb::Bus => read_bus(heap, words),
+        Verb::Bus => read_bus(words),
         Verb::Open => read_open(words),
-        Verb::Line => read_line(heap, words),
-        Verb::Message => read_message(heap, words),
+        Verb::Line => read_line(words),
+        Verb::Message => read_message(words),
         Verb::Tick => read_tick(words),
         Verb::Take => read_take(words),
         Verb::Close => read_close(words),
@@ -160,7 +161,7 @@ fn read_arguments(heap: Global, verb: Verb, words: &mut Words) -> Result<Call, F
 pub fn read_call(heap: Global, row: &[u8]) -> Result<Call, Fault>
     ensures { Reads row.now result }
 {
-    let mut words = Words::new(row);
+    let mut words = Words::new(heap, row);
     let word = words.next().ok_or(Fault::NoSuchRow)?;
-    read_arguments(heap, Verb::try_from(word)?, &mut words)
+    read_arguments(Verb::try_from(word)?, &mut words)
 }

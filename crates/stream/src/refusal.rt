@@ -7,7 +7,7 @@ use crate::fault::Fault;
 // Why a call was refused. Number 7 is no variant: `Answer::Malformed` stands for it, and says where.
 #[derive(Clone, Copy, PartialEq, Eq, Debug)]
 pub enum Refusal {
-    // the connection number is above 15, or has no life
+    // the connection number is above 15, or, except for open, has no life
     NoLife = 1,
     // open: the connection number has a life
     Taken = 2,
@@ -27,7 +27,7 @@ pub enum Refusal {
     NoPendingCall = 10,
     // message: a call that wants a reply, and no place is free
     NoPlace = 11,
-    // message: its serial is pending for the caller
+    // message: a call that wants a reply, and its serial is pending for the caller
     SerialPending = 12,
     // tick: a time below the bus's, or above 2^48 - 1
     BadTime = 13,

@@ -9,7 +9,7 @@ use crate::fault::Fault;
 use crate::text::{find, number, unhex};
 use std::alloc::Global;
 
-// A type of numbers that a word may write.
+// A type of numbers that a word may write. The bound `TryFrom<u64>` has no law of which number comes, so this trait states one.
 pub(crate) trait Number: Sized {
     // the number that a value is
     ghost worth: { Self → ℕ };
@@ -62,17 +62,22 @@ impl Number for u64 {
     }
 }
 
-// What is left of a row: nothing, or a word and what follows.
+// What is left of a row: nothing, or a word and what follows. (What the library promises of `split` depends on its closure.)
 #[derive(Drop)]
 pub(crate) struct Words<'a> {
+    // for the bytes that a word may write
+    heap: Global,
     rest: Option<&'a [u8]>,
 }
 
 impl<'a> Words<'a> {
-    pub(crate) fn new(row: &'a [u8]) -> Words<'a>
+    pub(crate) fn new(heap: Global, row: &'a [u8]) -> Words<'a>
         ensures { left result ≡ cut row.now }
     {
-        Words { rest: Some(row) }
+        Words {
+            heap,
+            rest: Some(row),
+        }
     }
 
     // The next word as a number of the type.
@@ -85,11 +90,11 @@ impl<'a> Words<'a> {
     }
 
     // The next word as bytes.
-    pub(crate) fn bytes(&mut self, heap: Global) -> Result<Vec<u8>, Fault>
+    pub(crate) fn bytes(&mut self) -> Result<Vec<u8>, Fault>
         ensures { MatchResult result (λ v. Bytes v.items × (left self.old ≡ hex v.items ∷ left self.new)) (λ e. (e ≢ OutOfMemory) → (bs : List ℕ) (ws : List (List ℕ)) → Bytes bs → left self.old ≢ hex bs ∷ ws) }
     {
         let text = self.next().ok_or(Fault::WrongCount)?;
-        unhex(heap, text)
+        unhex(self.heap, text)
     }
 
     // That no word is left.

@@ -59,11 +59,6 @@ module _ (ordered : List ℕ → List ℕ) (bytes : List ℕ) (codes : Span) (at
         };
   }
 
-  pub failed : (w : Walk) (f : Flaw) → Through w → Fails ordered w f → OfTypes ordered bytes codes at end (Err f)
-  failed w f t h ts e =
-      let o = t.owes ts e in
-      o.comes (Err f) (subst (λ (xs : List ℕ). Comes ordered xs end o.owed w.at (Err f)) t.message (h end o.owed o.of))
-
   pub finished : (w : Walk) → Through w → Done w → OfTypes ordered bytes codes at end (Ok w.at)
   finished w t d ts e =
       let o = t.owes ts e in

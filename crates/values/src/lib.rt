@@ -21,7 +21,7 @@ fn spells(bytes: &[u8], codes: Span) -> bool
 }
 
 // Where the values end that lie from `at` on, of the types of a signature that lies in the message too; or the first flaw.
-// `end` is the end of the part of the message that they are in.
+// `end` is the end of the part of the message that they are in. The four are told apart only here: from here on they are a walk.
 #[tactic(auto, using(crate::proofs::Once::decided))]
 pub fn values<O: ByteOrder>(bytes: &[u8], codes: Span, at: usize, end: usize) -> Result<usize, Flaw>
     ensures value { Read O.ByteOrder.ordered bytes.now codes at end result }

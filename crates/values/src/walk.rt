@@ -33,7 +33,7 @@ enum Stands {
     PastValue,
 }
 
-// A walk: the place where it stands, and what is around it.
+// A walk: the place where it stands, and what is around it. Codes are told by their places in the message, as all that passes is.
 #[derive(Drop)]
 struct Walk<'a> {
     bytes: &'a [u8],

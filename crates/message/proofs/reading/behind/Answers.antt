@@ -9,7 +9,7 @@ use Rattle.items.specs.declared.fault.Part.TheVariants as part
 use Rattle.items.specs.Items.{Item}
 use Rattle.items.proofs.Once.{never}
 use Rattle.frame.specs.declared.Frame.{Frame}
-use Rattle.frame.specs.declared.TheConstants.{FRAME_SIZE}
+use Rattle.frame.specs.Firsts.{frame_size}
 use Rattle.fields.specs.declared.Fields.{Fields}
 use Rattle.fields.specs.declared.known.Field.TheVariants.{Signature}
 use Rattle.fields.specs.Headers.{place_of, Header}
@@ -28,14 +28,14 @@ well part x (Ok y) e = cc
 well part x (Err f) e = cc
 
 -- the fields were read up to where they end
-module _ (o : List ℕ → List ℕ) (b : List ℕ) (f : Frame) (end : ℕ) (is_end : end ≡ FRAME_SIZE + f.fields) (r : Result Fields Flaw) (read : Header o b end r) (s : Fields) (passed : Ok s ≡ placed part.Fields r) where
-  header : Header o b (FRAME_SIZE + f.fields) r
+module _ (o : List ℕ → List ℕ) (b : List ℕ) (f : Frame) (end : ℕ) (is_end : end ≡ frame_size + f.fields) (r : Result Fields Flaw) (read : Header o b end r) (s : Fields) (passed : Ok s ≡ placed part.Fields r) where
+  header : Header o b (frame_size + f.fields) r
   header = subst (λ (n : ℕ). Header o b n r) is_end read
 
   codes_begin : (p : ℕ) → place_of s.places Signature ≡ Some p → p < length b
   codes_begin p e =
-      let held = header_holds o b (FRAME_SIZE + f.fields) s (subst (λ (x : Result Fields Flaw). Header o b (FRAME_SIZE + f.fields) x) (well _ s r passed) header) Signature p e in
-      codes_in o b (FRAME_SIZE + f.fields) p held.end held.lies
+      let held = header_holds o b (frame_size + f.fields) s (subst (λ (x : Result Fields Flaw). Header o b (frame_size + f.fields) x) (well _ s r passed) header) Signature p e in
+      codes_in o b (frame_size + f.fields) p held.end held.lies
 
   then_fields : (q : Result Layout Fault) → AfterFields o b f s q → AfterFrame o b f q
   then_fields q h = inl (s, (r, header, passed), h)
