@@ -1,12 +1,12 @@
 -- A walk from the beginning of values to their end.
-use Rattle.std.proofs.Common.{◌≡◌, ℕ, ◌≤◌, List, [], length, Ok, Err, Result, subst, sym, ap, ◌∙◌, arith}
+use Rattle.std.proofs.Common.{◌≡◌, ℕ, ◌≤◌, List, [], length, Ok, Result, subst, sym, ap, ◌∙◌, arith}
 use Rattle.signature.specs.Trees.{Trees, spell_all}
 use Rattle.items.specs.declared.fault.Flaw.{Flaw}
 use Rattle.items.specs.declared.Span.{Span}
 use Rattle.values.specs.declared.walk.Stands.TheVariants.{PastValue}
 use Rattle.values.specs.declared.walk.Walk.{Walk}
 use Rattle.values.specs.Values.{Values, within, Spelled, OfTypes}
-use Rattle.values.specs.Walks.{top, Owed, past_value, Of, Comes, Somewhere, Done, Moved, Fails}
+use Rattle.values.specs.Walks.{top, Owed, past_value, Of, Comes, Somewhere, Done, Moved}
 use Rattle.values.proofs.Ties.{in_message}
 use Rattle.values.proofs.Passes.{done_comes}
 
