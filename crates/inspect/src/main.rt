@@ -66,6 +66,7 @@ fn inspect_input(rt: &HostRuntime) -> anyhow::Result<Score> {
     Ok(score)
 }
 
+// What it tells at the end is told in its own words.
 fn work(rt: &HostRuntime) -> anyhow::Result<()> {
     let score = inspect_input(rt)?;
     let messages = score.messages();

@@ -70,6 +70,7 @@ fn answer_input(rt: &HostRuntime) -> anyhow::Result<Score> {
     Ok(score)
 }
 
+// What it tells at the end is told in its own words.
 fn work(rt: &HostRuntime) -> anyhow::Result<()> {
     let score = answer_input(rt)?;
     let questions = score.questions();

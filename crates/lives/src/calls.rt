@@ -10,7 +10,7 @@ use handshake::machine::{Handshake, Refusal as LineRefusal};
 // Why a call is refused.
 #[derive(Clone, Copy, PartialEq, Eq, Debug)]
 pub enum Refusal {
-    // the connection number is above 15, or has no life
+    // the connection number is above 15, or, except for open, has no life
     NoLife,
     // the connection number has a life
     Taken,

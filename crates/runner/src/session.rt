@@ -5,7 +5,7 @@ use replay::tally::Tally;
 use std::alloc::Global;
 use std::error::Error;
 use std::fmt;
-use stream::{Answer, Call, Fault, Form, agrees, content, is_answer, read_answer, read_call};
+use stream::{Answer, Call, Fault, Form, Verb, agrees, content, is_answer, read_answer, read_call};
 
 // Why a replay stops.
 #[derive(Clone, Copy, PartialEq, Eq, Debug)]
@@ -17,8 +17,8 @@ pub enum Trouble {
     NoCall,
     // a call that still waits for its answer
     NoAnswer,
-    // a call that this build does not have yet, by its name
-    NotYet(&'static str),
+    // a call that this build does not have yet
+    NotYet(Verb),
     OutOfMemory,
 }
 
@@ -35,7 +35,7 @@ impl fmt::Display for Trouble {
             Trouble::NoBus => f.write_str("there is no 'bus' row before this"),
             Trouble::NoCall => f.write_str("there is an answer, and no call waits for one"),
             Trouble::NoAnswer => f.write_str("the call before this has no recorded answer"),
-            Trouble::NotYet(name) => write!(f, "this build does not have the call '{name}' yet"),
+            Trouble::NotYet(verb) => write!(f, "this build does not have the call '{verb}' yet"),
             Trouble::OutOfMemory => f.write_str("there is no memory for the buffer"),
         }
     }
@@ -115,7 +115,7 @@ impl Session {
             return Err(Trouble::NoBus);
         };
         let came = perform(heap, lives, call).map_err(|unmade| match unmade {
-            Unmade::NotYet => Trouble::NotYet(call.verb().name()),
+            Unmade::NotYet => Trouble::NotYet(call.verb()),
             Unmade::OutOfMemory => Trouble::OutOfMemory,
         })?;
         if let (Call::Line { connection, .. }, Answer::Wrote(_)) = (call, &came) {

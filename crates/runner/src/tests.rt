@@ -2,7 +2,7 @@
 use crate::session::{Session, Trouble};
 use std::alloc::Global;
 use std::test::Fail;
-use stream::Fault;
+use stream::{Fault, Verb};
 
 const BUS: &[u8] = b"bus 4 00112233445566778899aabbccddeeff";
 
@@ -40,7 +40,7 @@ fn what_is_malformed(rt: HostRuntime) -> Result<(), Fail> {
         Trouble::NoAnswer,
     )?;
     stops(heap, &[BUS, b"open 1 1000"], BUS, Trouble::NoAnswer)?;
-    stops(heap, &[BUS], b"tick 5", Trouble::NotYet("tick"))?;
+    stops(heap, &[BUS], b"tick 5", Trouble::NotYet(Verb::Tick))?;
     stops(heap, &[BUS], b"open 1 01", Trouble::Row(Fault::BadNumber))?;
     stops(heap, &[BUS], b"opens 1 1", Trouble::Row(Fault::NoSuchRow))
 }

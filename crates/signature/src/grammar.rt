@@ -54,6 +54,7 @@ fn members(s: &[u8], arrays: usize, structs: usize) -> Option<&[u8]>
     ensures { MatchOption result ((left : List ℕ) → MembersAt s.now arrays structs left → ⊥) (λ left. MembersAt s.now arrays structs left.now) }
 {
     let rest = complete(s, arrays, structs)?;
+    // no `or_else`: its closure would be one more step of this recursion, with a measure of its own
     match rest.strip_prefix(b")") {
         Some(left) => Some(left),
         None => members(rest, arrays, structs),

@@ -44,6 +44,7 @@ impl Answer {
 // The number of the refusal that says where a message is malformed.
 const MALFORMED: u8 = 7;
 
+// A reader for each form of answer: they read alike, and make another answer each.
 fn read_done(words: &mut Words) -> Result<Answer, Fault>
     ensures { Accepted Form.Nothing (left words.old) result }
 {

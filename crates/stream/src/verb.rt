@@ -1,8 +1,9 @@
 // The names of calls.
-ghost use Rattle.std.specs.Prelude.{◌≡◌};
+ghost use Rattle.std.specs.Prelude.{Some};
 ghost use Rattle.stream.specs.Verbs.{name, Names};
 
 use crate::fault::Fault;
+use std::fmt;
 
 // The first word of a call.
 #[derive(Clone, Copy, PartialEq, Eq, Debug)]
@@ -16,11 +17,11 @@ pub enum Verb {
     Close,
 }
 
-impl Verb {
-    pub fn name(self) -> &'static str
-        ensures { result.now ≡ name self }
-    {
-        match self {
+impl fmt::Display for Verb {
+    ghost output = { λ v. Some (name v) };
+
+    fn fmt<W: fmt::Write>(&self, f: &mut fmt::Formatter<W>) -> fmt::Result {
+        f.write_str(match self {
             Verb::Bus => "bus",
             Verb::Open => "open",
             Verb::Line => "line",
@@ -28,7 +29,7 @@ impl Verb {
             Verb::Tick => "tick",
             Verb::Take => "take",
             Verb::Close => "close",
-        }
+        })
     }
 }
 

@@ -62,7 +62,7 @@ impl Number for u64 {
     }
 }
 
-// What is left of a row: nothing, or a word and what follows. (What the library promises of `split` depends on its closure.)
+// What is left of a row: nothing, or a word and what follows. What the library promises of `split` depends on its closure.
 #[derive(Drop)]
 pub(crate) struct Words<'a> {
     // for the bytes that a word may write
