@@ -57,6 +57,12 @@ module _ (area : List ℕ) where
       (omega arith, head (second area xs (0 ∷ []) h), alone area (first area xs (0 ∷ []) h))
 
   -- a signature with its length before it
+  pub codes_there : (p : ℕ) → codes_end area p ≤ length area → codes_last area p ≡ 0 → Lies area p (codes_end area p) (codes (codes_at area p))
+  codes_there p h z =
+      let n = get_or area p 0 in
+      let l = part_long (p + 1) n (omega arith) in
+      subst (λ (k : ℕ). Lies area p (codes_end area p) (k ∷ (codes_at area p ++ 0 ∷ []))) (sym l) (join area (one p (omega arith)) (closed (p + 1) n h z))
+
   pub codes_read : {p q : ℕ} (xs : List ℕ) → Lies area p q (codes xs) → (q ≡ codes_end area p) × (codes_last area p ≡ 0) × (codes_at area p ≡ xs)
   codes_read {p} {q} xs h =
       subst

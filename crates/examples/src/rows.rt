@@ -1,7 +1,7 @@
 // Rows of a recorded stream, as docs/runner.md has them.
 use std::alloc::Global;
 use std::test::Fail;
-use stream::{Answer, Call, Fault, Form, Refusal, agrees, content, read_answer, read_call};
+use stream::{Answer, Call, Fault, Form, agrees, content, read_answer, read_call};
 
 // Why a row is no call.
 fn fault_of(heap: Global, row: &[u8]) -> Option<Fault> {
@@ -59,7 +59,7 @@ fn reads_answers(rt: HostRuntime) -> Result<(), Fail> {
     assert!(rt; shows_again(heap, Form::Counts, b"= 2 0")?);
     assert!(rt; shows_again(heap, Form::Bytes, b"! 14")?);
     assert!(rt; shows_again(heap, Form::Counts, b"! 7 1 2 65535")?);
-    assert!(rt; !agrees(&Answer::Refused(Refusal::EarlyBegin), &Answer::Done));
+    assert!(rt; !agrees(&Answer::Refused(5), &Answer::Done));
     assert!(rt;
         matches!(
             read_answer(heap, Form::Bytes, b"= 2 4f4b20"),

@@ -44,7 +44,7 @@ same_codes bytes end p n l =
     ap (take n) (ap (λ (k : ℕ). drop (p + 1) (take k bytes)) e ∙ drop-take (p + 1) m bytes) ∙ take-take n m (drop (p + 1) bytes) (omega arith)
 
 -- a value of the type of a known field
-leaf_of : {ordered : List ℕ → List ℕ} {bytes : List ℕ} {around end p : ℕ} {b : Basic} {r : Result ℕ Flaw} → Value ordered bytes around end (basic b) p r → Leaf (take end bytes) ordered b around p r
+pub leaf_of : {ordered : List ℕ → List ℕ} {bytes : List ℕ} {around end p : ℕ} {b : Basic} {r : Result ℕ Flaw} → Value ordered bytes around end (basic b) p r → Leaf (take end bytes) ordered b around p r
 leaf_of (leaf h) = h
 
 pub own_leaf : {ordered : List ℕ → List ℕ} {bytes : List ℕ} {end p : ℕ} {r : Result ℕ Flaw} (f : Field) (codes : List ℕ) (t : Tree) → spell t [] ≡ codes → Own (Some f) codes → Value ordered bytes 0 end t p r

@@ -6,7 +6,7 @@ use signature::Alignment;
 use std::marker::PhantomData;
 
 // A place in a message of byte order O, from which what comes next is read.
-#[derive(Drop)]
+#[derive(Clone, Copy)]
 pub struct Reader<'a, O> {
     bytes: &'a [u8],
     at: usize,

@@ -99,7 +99,12 @@ impl<O: ByteOrder> Shown<'_, O> {
     #[cycle(array_value_values_variant)]
     pub fn variant(&mut self, levels: usize) -> Result<(), Failure> {
         let codes = self.reader.signature()?;
-        write!(self.text, "<{} ", Plain(codes))?;
+        self.text.push('<')?;
+        match Plain(codes).text() {
+            Some(text) => self.text.push_str(text)?,
+            None => write!(self.text, "{}", Plain(codes))?,
+        }
+        self.text.push(' ')?;
         self.value(codes, levels)?;
         self.text.push('>')?;
         Ok(())

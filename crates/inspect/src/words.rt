@@ -1,6 +1,7 @@
 // What is shown, as text.
 use fields::Field;
 use frame::{Frame, Kind, Order};
+use hex_digits::pair;
 use items::{Cause, Fault, Part};
 use std::fmt;
 
@@ -8,12 +9,52 @@ use std::fmt;
 #[derive(Clone, Copy)]
 pub struct Plain<'a>(pub &'a [u8]);
 
+impl<'a> Plain<'a> {
+    // The text that they are; None where any is no ASCII.
+    pub fn text(self) -> Option<&'a str> {
+        if self.0.is_ascii() {
+            std::str::from_utf8(self.0).ok()
+        } else {
+            None
+        }
+    }
+}
+
+// Writes gathered text, which is ASCII and so never refused.
+fn write_text<W: fmt::Write>(f: &mut fmt::Formatter<W>, bytes: &[u8]) -> fmt::Result {
+    f.write_str(std::str::from_utf8(bytes).map_err(|_| fmt::Error)?)
+}
+
 impl fmt::Display for Plain<'_> {
     fn fmt<W: fmt::Write>(&self, f: &mut fmt::Formatter<W>) -> fmt::Result {
+        // at once, since a character at a time takes twice as long
+        if let Some(text) = self.text() {
+            return f.write_str(text);
+        }
         for b in self.0 {
             f.write_char(char::from(*b))?;
         }
         Ok(())
+    }
+}
+
+// How much text is gathered before it is written: to write each character apart takes twice as long.
+const GATHERED: usize = 64;
+
+// Whether a byte stands in hex between quotes: it is not printable ASCII, or a quote or backslash.
+fn is_escaped(b: u8) -> bool {
+    matches!(b, b'"' | b'\\' | ..=0x1f | 0x7f..)
+}
+
+// A byte in hex, as it stands between quotes.
+fn escaped(b: u8) -> [u8; 4] {
+    match b {
+        b'"' => *b"\\x22",
+        b'\\' => *b"\\x5c",
+        other => {
+            let [high, low] = pair(other);
+            [b'\\', b'x', high, low]
+        }
     }
 }
 
@@ -23,14 +64,25 @@ pub struct Quoted<'a>(pub &'a [u8]);
 
 impl fmt::Display for Quoted<'_> {
     fn fmt<W: fmt::Write>(&self, f: &mut fmt::Formatter<W>) -> fmt::Result {
-        f.write_char('"')?;
+        // with one place more, for the last quote
+        let mut text = [b'"'; GATHERED + 1];
+        // the first quote is there
+        let mut size = 1;
         for b in self.0 {
-            match *b {
-                other @ (b'"' | b'\\' | ..=0x1f | 0x7f..) => write!(f, "\\x{other:02x}")?,
-                printable => f.write_char(char::from(printable))?,
+            if size + 4 > GATHERED {
+                write_text(f, &text[..size])?;
+                size = 0;
+            }
+            if is_escaped(*b) {
+                text[size..size + 4].copy_from_slice(&escaped(*b));
+                size += 4;
+            } else {
+                text[size] = *b;
+                size += 1;
             }
         }
-        f.write_char('"')
+        text[size] = b'"';
+        write_text(f, &text[..=size])
     }
 }
 

@@ -1,21 +1,44 @@
 -- For an implementation whose lists come from a function: what it owes, at c and elsewhere.
-use Rattle.std.proofs.Common.{◌≡◌, ℕ, ◌<◌, ◌≤◌, cond, leb, List, [], ◌∷◌, ◌++◌, length, drop, set, Ok, Err, Result, sym, ap, ◌∙◌, ⊎_elim, arith}
+use Rattle.std.proofs.Common.{◌≡◌, ℕ, ◌<◌, ◌≤◌, true, false, cond, leb, List, [], ◌∷◌, ◌++◌, length, drop, set, Ok, Err, Result, sym, ap, subst, ◌∙◌, ⊎_elim, arith}
 use Rattle.std.proofs.lemmas.List.FromFn.{length-map-range_with_len, get_or-map-range_with_len, fill_by_all}
 use Rattle.std.proofs.lemmas.List.{get_or_past, get_or-set_same, get_or-set_other, length-set, set_past, set-get_or}
 use Rattle.std.specs.List.{All}
 use Rattle.std.proofs.lemmas.List.Elements.{All-get_or}
-use Rattle.std.proofs.lemmas.Bool.{cases_eq, cases_lt, le-leb, lt-leb, le-ltb, ne_eqb, cond-true, cond-false, or_from}
+use Rattle.std.proofs.lemmas.Bool.{cases_eq, cases_lt, le-leb, lt-leb, lt-ltb, le-ltb, ne_eqb, cond-true, cond-false, or_from}
 use Rattle.connection.specs.declared.Connection.{Connection}
 use Rattle.mailbox.specs.declared.Refusal.{Refusal}
-use Rattle.mailbox.specs.declared.Refusal.TheVariants.{Full, ShortBuffer}
+use Rattle.mailbox.specs.declared.Refusal.TheVariants.{NoMailbox, BadLength, Full, ShortBuffer}
 use Rattle.mailbox.specs.declared.message.Message.{Message}
-use Rattle.mailbox.specs.Lists.{Lists, Laws, IsSize, waiting, tabled, put_answer, added, put_after, take_answer, taken, take_after, take_buffer, clear_after}
+use Rattle.mailbox.specs.Lists.{Lists, Laws, IsSize, waiting, tabled, misfit, put_answer, added, put_after, take_answer, taken, take_after, take_buffer, clear_after}
 
--- what fullness alone decides
-put_free : (bound : ℕ) (ls : Lists) (c : ℕ) (m : List ℕ) → c < 16 → 0 < length m → length m ≤ 1024 → put_answer bound ls c m ≡ cond (leb bound (length (waiting ls c))) (Err Full) (Ok tt)
-put_free bound ls c m h some short =
-    cond-false _ _ _ (le-ltb 15 c (omega arith))
-    ∙ cond-false _ _ _ (or_from _ _ (ne_eqb (length m) 0 (λ e. omega arith)) (le-ltb 1024 (length m) short))
+-- a put on any sixteen lists
+module _ (bound : ℕ) (ls : Lists) (c : ℕ) (m : List ℕ) where
+  refused_so : (e : Refusal) → put_answer bound ls c m ≡ Err e → (Err e ≡ put_answer bound ls c m) × (ls ≡ put_after bound ls c m)
+  refused_so e a = (sym a, sym (ap (λ (r : Result (Unit {0}) Refusal). added r ls c m) a))
+
+  pub put_no_mailbox : 16 ≤ c → (Err NoMailbox ≡ put_answer bound ls c m) × (ls ≡ put_after bound ls c m)
+  put_no_mailbox h = refused_so NoMailbox (cond-true _ _ _ (lt-ltb 15 c h))
+
+  -- there is such a connection
+  module _ (h : c < 16) where
+    known : put_answer bound ls c m ≡ cond (misfit m) (Err BadLength) (cond (leb bound (length (waiting ls c))) (Err Full) (Ok tt))
+    known = cond-false _ _ _ (le-ltb 15 c (omega arith))
+
+    pub put_misfit : misfit m ≡ true → (Err BadLength ≡ put_answer bound ls c m) × (ls ≡ put_after bound ls c m)
+    put_misfit bad = refused_so BadLength (known ∙ cond-true _ _ _ bad)
+
+    -- and the message fits
+    module _ (good : misfit m ≡ false) where
+      pub put_filled : bound ≤ length (waiting ls c) → (Err Full ≡ put_answer bound ls c m) × (ls ≡ put_after bound ls c m)
+      put_filled full = refused_so Full (known ∙ cond-false _ _ _ good ∙ cond-true _ _ _ (le-leb bound (length (waiting ls c)) full))
+
+      pub put_accepted : length (waiting ls c) < bound → (Ok tt ≡ put_answer bound ls c m) × (set ls c (waiting ls c ++ (m ∷ [])) ≡ put_after bound ls c m)
+      put_accepted free =
+          let a : put_answer bound ls c m ≡ Ok tt = known ∙ cond-false _ _ _ good ∙ cond-false _ _ _ (lt-leb bound (length (waiting ls c)) free) in
+          (sym a, sym (ap (λ (r : Result (Unit {0}) Refusal). added r ls c m) a))
+
+fitting : (m : List ℕ) → 0 < length m → length m ≤ 1024 → misfit m ≡ false
+fitting m some short = or_from _ _ (ne_eqb (length m) 0 (λ e. omega arith)) (le-ltb 1024 (length m) short)
 
 module _ (f : ℕ → List (List ℕ)) where
   pub tabled_length : length (tabled f) ≡ 16
@@ -39,8 +62,15 @@ module _ (f : ℕ → List (List ℕ)) where
       (λ ne. get_or-set_other (tabled f) c k x [] ne ∙ tabled_at k hk ∙ sym (other k hk ne))
       (cases_eq k c)))
 
+  -- one more for c
+  pub put_added : (g : ℕ → List (List ℕ)) (bound c : ℕ) (m : List ℕ) → c < 16 → misfit m ≡ false → length (f c) < bound → g c ≡ f c ++ (m ∷ []) → ((k : ℕ) → k < 16 → (k ≡ c → ⊥) → g k ≡ f k) → (Ok tt ≡ put_answer bound (tabled f) c m) × (tabled g ≡ put_after bound (tabled f) c m)
+  put_added g bound c m h good free here other =
+      let e = tabled_at c h in
+      let p = put_accepted bound (tabled f) c m h good (rw e free) in
+      (p.0, tabled_set g c (waiting (tabled f) c ++ (m ∷ [])) h (here ∙ ap (λ (w : List (List ℕ)). w ++ (m ∷ [])) (sym e)) other ∙ p.1)
+
   -- take, where nothing waits
-  take_nothing : (c : ℕ) (b : List ℕ) → waiting (tabled f) c ≡ [] → (Ok 0 ≡ take_answer (waiting (tabled f) c) (length b)) × (tabled f ≡ take_after (tabled f) c (length b)) × (b ≡ take_buffer (waiting (tabled f) c) b)
+  pub take_nothing : (c : ℕ) (b : List ℕ) → waiting (tabled f) c ≡ [] → (Ok 0 ≡ take_answer (waiting (tabled f) c) (length b)) × (tabled f ≡ take_after (tabled f) c (length b)) × (b ≡ take_buffer (waiting (tabled f) c) b)
   take_nothing c b e = (
     ap (λ (w : List (List ℕ)). take_answer w (length b)) (sym e),
     sym (ap (λ (w : List (List ℕ)). set (tabled f) c (taken w (length b))) e ∙ ap (set (tabled f) c) (sym e) ∙ set-get_or (tabled f) c []),
@@ -69,24 +99,17 @@ module _ (f : ℕ → List (List ℕ)) where
 
     -- put
     module _ (bound : ℕ) (w : Message) (m : List ℕ) (e : w.bytes.now ≡ m) where
-      free : put_answer bound (tabled f) c m ≡ cond (leb bound (length (f k.number))) (Err Full) (Ok tt)
-      free =
-          put_free bound (tabled f) c m (omega (arith, k.within)) (rw (← e) w.some) (rw (← e) w.short)
-          ∙ ap (λ (xs : List (List ℕ)). cond (leb bound (length xs)) (Err Full) (Ok tt)) waiting_is
+      good : misfit m ≡ false
+      good = fitting m (rw (← e) w.some) (rw (← e) w.short)
 
       pub put_full : bound ≤ length (f k.number) → (Err Full ≡ put_answer bound (tabled f) c m) × (tabled f ≡ put_after bound (tabled f) c m)
-      put_full full =
-          let a : put_answer bound (tabled f) c m ≡ Err Full = free ∙ cond-true _ _ _ (le-leb bound (length (f k.number)) full) in
-          (sym a, sym (ap (λ (r : Result (Unit {0}) Refusal). added r (tabled f) c m) a))
+      put_full full = put_filled bound (tabled f) c m (omega (arith, k.within)) good (rw waiting_is full)
 
       -- one more
       pub put_done : (g : ℕ → List (List ℕ)) → length (f k.number) < bound → g k.number ≡ f k.number ++ (m ∷ []) → ((d : ℕ) → d < 16 → (d ≡ k.number → ⊥) → g d ≡ f d) → (Ok tt ≡ put_answer bound (tabled f) c m) × (tabled g ≡ put_after bound (tabled f) c m)
       put_done g room here other =
-          let a : put_answer bound (tabled f) c m ≡ Ok tt = free ∙ cond-false _ _ _ (lt-leb bound (length (f k.number)) room) in (
-            sym a,
-            set_is g (waiting (tabled f) c ++ (m ∷ [])) (here ∙ ap (λ (xs : List (List ℕ)). xs ++ (m ∷ [])) (sym waiting_is)) other
-                ∙ sym (ap (λ (r : Result (Unit {0}) Refusal). added r (tabled f) c m) a),
-          )
+          subst (λ (d : ℕ). (Ok tt ≡ put_answer bound (tabled f) d m) × (tabled g ≡ put_after bound (tabled f) d m)) is
+          (put_added g bound k.number m k.within good room here other)
 
     -- take
     module _ (b : List ℕ) where

@@ -6,6 +6,7 @@ mod script;
 use anyhow::{Context, anyhow};
 use connection::CONNECTIONS;
 use console::{Program, Request};
+use hex_digits::pair;
 use mailbox::MailboxSet;
 use roll::Roll;
 use script::{Line, Wrong, read};
@@ -15,7 +16,6 @@ use std::io::{BufRead, BufReader};
 use std::process::ExitCode;
 use std::{env, fmt};
 use steps::{Answers, Outcome, Step, compare};
-use stream::Hex;
 
 const HELP: &str = "usage: mailroom < SCRIPT
 
@@ -68,12 +68,26 @@ fn made(heap: Global, limit: usize) -> Result<Room, AllocError> {
     Ok(Room { shelf, roll })
 }
 
-// What came of a step that is not `limit`, with the bytes that were taken.
+// Bytes as `Hex` shows them. A text of their digits is made first, since `Hex` takes half as long again, a character at a time.
+fn in_hex(heap: Global, bytes: &[u8]) -> Result<String, AllocError> {
+    let mut text = String::new(heap);
+    if bytes.is_empty() {
+        text.push('-')?;
+    }
+    for b in bytes {
+        let [high, low] = pair(*b);
+        text.push(char::from(high))?;
+        text.push(char::from(low))?;
+    }
+    Ok(text)
+}
+
+// What came of a step that is not `limit`, with the bytes that were taken, in hex.
 #[derive(Clone, Copy)]
 struct Told<'a> {
     line: &'a Line,
     outcome: Outcome,
-    taken: &'a [u8],
+    taken: &'a str,
 }
 
 impl fmt::Display for Told<'_> {
@@ -82,7 +96,7 @@ impl fmt::Display for Told<'_> {
             (Line::Put(c, _), Outcome::Put(Ok(()))) => write!(f, "put {c}: ok"),
             (Line::Put(c, _), Outcome::Put(Err(refusal))) => write!(f, "put {c}: {refusal}"),
             (Line::Take(c, _), Outcome::Taken(Ok(n))) => {
-                write!(f, "take {c}: {n} {}", Hex(self.taken))
+                write!(f, "take {c}: {n} {}", self.taken)
             }
             (Line::Take(c, _), Outcome::Taken(Err(refusal))) => write!(f, "take {c}: {refusal}"),
             (Line::Count(c), Outcome::Counted(n)) => write!(f, "count {c}: {n}"),
@@ -120,10 +134,11 @@ fn carry_out(rt: &HostRuntime, room: &mut Room, line: &Line) -> anyhow::Result<b
         other.as_mut_slice(),
     );
     let same = first == second && out == other;
+    let hex = in_hex(heap, written(first, out.as_slice()))?;
     let told = Told {
         line,
         outcome: first,
-        taken: written(first, out.as_slice()),
+        taken: hex.as_str(),
     };
     println!(rt; "{told}{}", if same { "" } else { DIFFERS })?;
     Ok(same)

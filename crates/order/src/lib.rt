@@ -70,9 +70,11 @@ pub trait ByteOrder {
 }
 
 // The least significant byte first.
+#[derive(Clone, Copy)]
 pub struct Little;
 
 // The most significant byte first.
+#[derive(Clone, Copy)]
 pub struct Big;
 
 impl ByteOrder for Little {

@@ -2,15 +2,13 @@
 ghost use Rattle.std.specs.Prelude.{◌≡◌, Some, MatchResult};
 ghost use Rattle.replay.specs.declared.perform.Unmade.TheVariants.{OutOfMemory};
 ghost use Rattle.stream.specs.Replies.{said as telling};
-ghost use Rattle.stream.specs.Refusals.{number_of};
-ghost use Rattle.lives.specs.Calls.{numbered, opened, closed, lined};
+ghost use Rattle.lives.specs.Calls.{opened, closed, lined};
 ghost use Rattle.replay.specs.Outcomes.{opening, wrote_or_refused, answered, altered, Unanswered};
 
-use handshake::machine::Refusal as LineRefusal;
-use lives::calls::Refusal as LifeRefusal;
+use lives::calls::Refusal;
 use lives::table::Lives;
 use std::alloc::{AllocError, Global};
-use stream::{Answer, Call, Refusal};
+use stream::{Answer, Call};
 
 // Why a call was not made.
 #[derive(Clone, Copy, PartialEq, Eq, Debug)]
@@ -29,26 +27,13 @@ impl From<AllocError> for Unmade {
     }
 }
 
-// A refusal as a row has it; no `From`, since both types are of other crates.
-fn recorded(refusal: LifeRefusal) -> Refusal
-    ensures { number_of result ≡ numbered refusal }
-{
-    match refusal {
-        LifeRefusal::NoLife => Refusal::NoLife,
-        LifeRefusal::Taken => Refusal::Taken,
-        LifeRefusal::Line(LineRefusal::ShortBuffer) => Refusal::ShortBuffer,
-        LifeRefusal::Line(LineRefusal::AlreadyBegun) => Refusal::AlreadyBegun,
-        LifeRefusal::Line(LineRefusal::EarlyBegin) => Refusal::EarlyBegin,
-    }
-}
-
 // The answer of a call that answers nothing but 0.
-fn settled(res: Result<(), LifeRefusal>) -> Answer
+fn settled(res: Result<(), Refusal>) -> Answer
     ensures { telling result ≡ opening res }
 {
     match res {
         Ok(()) => Answer::Done,
-        Err(refusal) => Answer::Refused(recorded(refusal)),
+        Err(refusal) => Answer::Refused(u8::from(refusal)),
     }
 }
 
@@ -70,7 +55,7 @@ fn give_line(
             buffer.truncate(count);
             Ok(Answer::Wrote(buffer))
         }
-        Err(refusal) => Ok(Answer::Refused(recorded(refusal))),
+        Err(refusal) => Ok(Answer::Refused(u8::from(refusal))),
     }
 }
 

@@ -1,8 +1,9 @@
 -- Laws of rows of records.
-use Rattle.std.proofs.Common.{◌≡◌, ℕ, zero, suc, ◌+◌, ◌-◌, ◌*◌, ◌/◌, ◌%◌, ◌<◌, ◌≤◌, true, false, cond, eqb, List, [], ◌∷◌, ◌++◌, length, get_or, take, drop, set, sym, refl, ap, ◌∙◌, ap₂, subst, ⊎_elim, append_assoc, div-add-mod', arith}
+use Rattle.std.proofs.Common.{◌≡◌, ℕ, zero, suc, ◌+◌, ◌-◌, ◌*◌, ◌/◌, ◌%◌, ◌<◌, ◌≤◌, true, false, cond, eqb, List, [], ◌∷◌, ◌++◌, length, map, get_or, take, drop, set, sym, refl, ap, ◌∙◌, ap₂, subst, ⊎_elim, append_assoc, div-add-mod', arith}
 use lib.Seq.{paste}
 use Rattle.std.proofs.lemmas.List.{append-nil, drop_all, drop_at, drop-drop, drop_more, get_or-drop, get_or_past, get_or-set_same, get_or-set_other, length-append, length-drop, length-set, length_push, take_at}
-use Rattle.std.specs.List.{All, sum_by}
+use Rattle.std.specs.List.{All, sum_by, range_with_len}
+use Rattle.std.proofs.lemmas.List.FromFn.{length-map-range_with_len, get_or-map-range_with_len}
 use Rattle.std.proofs.lemmas.List.Elements.{All-cons, All-from_get_or, All-get_or, All-head, All-push, All-set, All-tail}
 use Rattle.std.proofs.lemmas.List.Sums.{sum_by-le, sum_by-set}
 use Rattle.std.proofs.lemmas.Bool.{cases_Bool, cases_eq, cases_lt, cond-true, cond-false, eqb-true, eq-eqb, ne_eqb}
@@ -190,6 +191,44 @@ room_for rs counts lim c l s t all hc free =
 pub few : (rs : List Record) (counts : List ℕ) (lim : ℕ) → length counts ≡ 16 → Sound rs → Tallied counts rs → All (λ n. n ≤ lim) counts → length rs ≤ 16 * lim
 few rs counts lim l s t all = rw (← l) (rw (← tally rs counts l s t) at (sum_by-le (λ n. n) lim counts all))
 
+-- only the sixteen have counts above 0
+pub counted_below : (counts : List ℕ) (c : ℕ) → length counts ≡ 16 → 0 < get_or counts c 0 → c < 16
+counted_below counts c l some = ⊎_elim (λ (h : c < 16). h) (λ h. absurd (omega (arith, get_or_past counts c 0 (omega arith)))) (cases_lt c 16)
+
+-- counts of any length: those of the sixteen connections are all that count
+no_messages : (c : ℕ) (rs : List Record) → 16 ≤ c → Sound rs → messages c rs ≡ []
+no_messages c [] h s = refl
+no_messages c (r ∷ rs) h s =
+    cond-false (eqb r.connection c) _ _ (ne_eqb r.connection c (λ e. omega (arith, (All-head Good r rs s).0)))
+    ∙ no_messages c rs h (All-tail Good r rs s)
+
+unfoldable sixteen : List ℕ → List ℕ
+sixteen counts = map (λ c. get_or counts c 0) (range_with_len 0 16)
+
+sixteen_length : (counts : List ℕ) → length (sixteen counts) ≡ 16
+unfolding sixteen
+sixteen_length counts = length-map-range_with_len (λ c. get_or counts c 0) 0 16
+
+sixteen_at : (counts : List ℕ) (c : ℕ) → c < 16 → get_or (sixteen counts) c 0 ≡ get_or counts c 0
+unfolding sixteen
+sixteen_at counts c h = get_or-map-range_with_len (λ d. get_or counts d 0) 0 16 c c 0 h (omega arith)
+
+module _ (rs : List Record) (counts : List ℕ) (lim : ℕ) (s : Sound rs) (t : Tallied counts rs) (all : (d : ℕ) → get_or counts d 0 ≤ lim) where
+  sixteen_tallied : Tallied (sixteen counts) rs
+  sixteen_tallied c = ⊎_elim
+      (λ (h : c < 16). sixteen_at counts c h ∙ t c)
+      (λ h. get_or_past (sixteen counts) c 0 (omega (arith, sixteen_length counts)) ∙ sym (ap length (no_messages c rs (omega arith) s)))
+      (cases_lt c 16)
+
+  sixteen_fill : All (λ n. n ≤ lim) (sixteen counts)
+  sixteen_fill = All-from_get_or (λ n. n ≤ lim) (sixteen counts) 0 (λ k h. omega (arith, sixteen_at counts k (omega (arith, sixteen_length counts)), all k))
+
+  pub room_for_any : (c : ℕ) → c < 16 → get_or counts c 0 < lim → length (encode rs) + 1027 ≤ lim * 16432
+  room_for_any c h free = room_for rs (sixteen counts) lim c (sixteen_length counts) s sixteen_tallied sixteen_fill h (omega (arith, sixteen_at counts c h))
+
+  pub few_of_any : length rs ≤ lim * 16
+  few_of_any = omega (arith, few rs (sixteen counts) lim (sixteen_length counts) s sixteen_tallied sixteen_fill)
+
 -- one record more
 pub record Put (area area' : List ℕ) (n used c : ℕ) (m : List ℕ) : Type 0 where
   pub rows : decode (n + 1) area' ≡ decode n area ++ (record_of c m ∷ [])
@@ -267,6 +306,10 @@ first_of area n used c at l e one is =
       ends = omega arith;
       count = omega arith;
     }
+
+-- and its head lies in the area
+pub first_within : (area : List ℕ) (n used c at len : ℕ) → Laid n area → length (encode (decode n area)) ≡ used → First area n used c at len → at + 3 ≤ length area
+first_within area n used c at len l u f = omega (arith, f.inside, laid_length n area l)
 
 -- a walk over the records that stands before the k-th, and has met none of c
 pub record Walk (area : List ℕ) (n c at k : ℕ) : Type 0 where

@@ -56,10 +56,13 @@ fn replay_input(rt: &HostRuntime) -> anyhow::Result<Tally> {
     let mut session = Session::new();
     for (number, line) in (1u64..).zip(BufReader::new(heap, rt.stdin())?.lines(heap)) {
         let line = line?;
-        let judged = session.row(heap, line.as_bytes());
-        if let Some(wrong) = judged.context(format_args!("line {number}"))? {
-            let Disagreement { expected, came } = wrong;
-            println!(rt; "line {number}: expected '{expected}', came '{came}'")?;
+        // an error is large, so it is made only of a row that stops the replay
+        match session.row(heap, line.as_bytes()) {
+            Ok(None) => {}
+            Ok(Some(Disagreement { expected, came })) => {
+                println!(rt; "line {number}: expected '{expected}', came '{came}'")?;
+            }
+            Err(trouble) => return Err(trouble).context(format_args!("line {number}")),
         }
     }
     session.end().context("at the end")

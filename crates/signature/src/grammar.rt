@@ -1,5 +1,5 @@
 // Which bytes are a signature, and where a type in them ends.
-ghost use Rattle.std.specs.Prelude.{◌≡◌, ℕ, true, false, List, [], ◌∷◌, Decides, MatchOption};
+ghost use Rattle.std.specs.Prelude.{◌≡◌, ℕ, true, false, List, [], ◌∷◌, Decides, MatchOption, ◌≢◌};
 ghost use Rattle.signature.specs.Trees.{Trees, Signature as Signed, Single, EndsAt, ElementEnds, SpelledOnce};
 ghost use Rattle.signature.specs.Phrases.{TypeAt, ElementAt, EntryAt, MembersAt, Types};
 ghost use Rattle.signature.specs.Examples.{Examples};
@@ -11,6 +11,14 @@ const LONGEST: usize = 255;
 
 // The most arrays around one another, and the most structs and dict entries.
 const DEEPEST: usize = 32;
+
+// What follows a code, if `s` begins with it.
+fn after(s: &[u8], code: u8) -> Option<&[u8]>
+    ensures { MatchOption result ((xs : List ℕ) → s.now ≢ code ∷ xs) (λ rest. s.now ≡ code ∷ rest.now) }
+{
+    let (first, rest) = s.split_first()?;
+    (*first == code).then_some(rest)
+}
 
 // What follows the complete type at the front, if there is one with at most so many arrays and structs.
 // The two numbers stay two: each step inside lowers one of them, or neither, so a struct of both would be taken apart at each.
@@ -32,7 +40,7 @@ fn complete(s: &[u8], arrays: usize, structs: usize) -> Option<&[u8]>
 fn element(s: &[u8], arrays: usize, structs: usize) -> Option<&[u8]>
     ensures { MatchOption result ((left : List ℕ) → ElementAt s.now arrays structs left → ⊥) (λ left. ElementAt s.now arrays structs left.now) }
 {
-    match s.strip_prefix(b"{") {
+    match after(s, b'{') {
         Some(inner) => entry(inner, arrays, structs.checked_sub(1)?),
         None => complete(s, arrays, structs),
     }
@@ -45,7 +53,7 @@ fn entry(s: &[u8], arrays: usize, structs: usize) -> Option<&[u8]>
 {
     let (key, value) = s.split_first()?;
     let _ = Basic::try_from(*key).ok()?;
-    complete(value, arrays, structs)?.strip_prefix(b"}")
+    after(complete(value, arrays, structs)?, b'}')
 }
 
 // The same of the members of a struct, after its `(`.
@@ -55,7 +63,7 @@ fn members(s: &[u8], arrays: usize, structs: usize) -> Option<&[u8]>
 {
     let rest = complete(s, arrays, structs)?;
     // no `or_else`: its closure would be one more step of this recursion, with a measure of its own
-    match rest.strip_prefix(b")") {
+    match after(rest, b')') {
         Some(left) => Some(left),
         None => members(rest, arrays, structs),
     }

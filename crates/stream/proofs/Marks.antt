@@ -1,6 +1,5 @@
 -- From the words of an answer to its row.
 use Rattle.std.proofs.Common.{◌≡◌, ℕ, List, [], ◌∷◌, Ok, Err, vec_items, Result, sym, refl, ap, ◌∙◌, subst, inl, inr, arith}
-use Rattle.stream.specs.Refusals.{number_of}
 use Rattle.stream.specs.Replies.{mark, parts, spelled, Within, Fits, Reads, Value, Accepted, Denial, Denied}
 use Rattle.stream.specs.Spelling.{spaced, Without}
 use Rattle.stream.specs.Text.{cut}
@@ -11,34 +10,33 @@ use Rattle.stream.specs.declared.fault.Fault.{Fault}
 use Rattle.stream.proofs.Cuts.{same_first, Solid, cut_spaced, spaced_cut, without_clear}
 use Rattle.stream.proofs.Pairs.{without_hex}
 use Rattle.stream.proofs.Numbers.{without_space}
-use Rattle.stream.proofs.Refusals.{number_range}
 
 value : (f : Form) (a : Answer) → mark a ≡ 61 → Within a → Fits f a → Value f (parts a)
 value f Done m h e = subst (λ (g : Form). Value g (parts Done)) (sym e) refl
 value f (Wrote bytes) m h e = subst (λ (g : Form). Value g (parts (Wrote bytes))) (sym e) (vec_items bytes, h.0, h.1, refl)
 value f (Routed placed missed) m h e = subst (λ (g : Form). Value g (parts (Routed placed missed))) (sym e) (placed, missed, h.0, h.1, refl)
-value f (Refused r) m h e = absurd (omega arith)
+value f (Refused n) m h e = absurd (omega arith)
 value f (Malformed part cause byte) m h e = absurd (omega arith)
 
 denial : (a : Answer) → mark a ≡ 33 → Within a → Denial (parts a)
 denial Done m h = absurd (omega arith)
 denial (Wrote bytes) m h = absurd (omega arith)
 denial (Routed placed missed) m h = absurd (omega arith)
-denial (Refused r) m h = inl (r, refl)
+denial (Refused n) m h = inl (n, h.0, h.1, h.2, refl)
 denial (Malformed part cause byte) m h = inr (_, refl, (part, cause, byte, h.0, h.1, h.2, refl))
 
 solid_parts : (a : Answer) → Within a → Solid (parts a)
 solid_parts Done h = (without_space 0 (omega arith), tt)
 solid_parts (Wrote bytes) h = (without_space _ (omega arith), (without_hex (vec_items bytes) h.1, tt))
 solid_parts (Routed placed missed) h = (without_space placed (omega arith), (without_space missed (omega arith), tt))
-solid_parts (Refused r) h = (without_space (number_of r) (omega (arith, number_range r)), tt)
+solid_parts (Refused n) h = (without_space n (omega arith), tt)
 solid_parts (Malformed part cause byte) h = (without_space 7 (omega arith), (without_space part (omega arith), (without_space cause (omega arith), (without_space byte (omega arith), tt))))
 
 solid_mark : (a : Answer) → Without 32 (mark a ∷ [])
 solid_mark Done = without_clear (61 ∷ []) refl
 solid_mark (Wrote bytes) = without_clear (61 ∷ []) refl
 solid_mark (Routed placed missed) = without_clear (61 ∷ []) refl
-solid_mark (Refused r) = without_clear (33 ∷ []) refl
+solid_mark (Refused n) = without_clear (33 ∷ []) refl
 solid_mark (Malformed part cause byte) = without_clear (33 ∷ []) refl
 
 -- the words of a row that spells an answer

@@ -1,7 +1,6 @@
 -- Answers as rows.
-use Rattle.std.specs.Prelude.{◌≡◌, ℕ, ◌^◌, ◌<◌, ◌⊎◌, Bool, true, false, List, [], ◌∷◌, length, Ok, Err, vec_items, decimal, Result, ◌≢◌}
+use Rattle.std.specs.Prelude.{◌≡◌, ℕ, ◌^◌, ◌<◌, ◌≤◌, ◌⊎◌, Bool, true, false, List, [], ◌∷◌, length, Ok, Err, vec_items, decimal, Result, ◌≢◌}
 use Rattle.stream.specs.Spelling.{hex, spaced, Bytes}
-use Rattle.stream.specs.Refusals.{number_of}
 use Rattle.stream.specs.Text.{first}
 use Rattle.stream.specs.declared.answer.Answer.{Answer}
 use Rattle.stream.specs.declared.answer.Answer.TheVariants.{Done, Wrote, Routed, Refused, Malformed}
@@ -9,14 +8,13 @@ use Rattle.stream.specs.declared.answer.Form.{Form}
 use Rattle.stream.specs.declared.answer.Form.TheVariants as form
 use Rattle.stream.specs.declared.fault.Fault.{Fault}
 use Rattle.stream.specs.declared.fault.Fault.TheVariants.{OutOfMemory}
-use Rattle.stream.specs.declared.refusal.Refusal.{Refusal}
 
 -- '=' for an accepted call and '!' for a refused one
 abbrev pub mark : Answer → ℕ
 mark Done = 61
 mark (Wrote bytes) = 61
 mark (Routed placed missed) = 61
-mark (Refused refusal) = 33
+mark (Refused n) = 33
 mark (Malformed part cause byte) = 33
 
 -- whether the call was refused
@@ -24,7 +22,7 @@ abbrev pub denied : Answer → Bool
 denied Done = false
 denied (Wrote bytes) = false
 denied (Routed placed missed) = false
-denied (Refused refusal) = true
+denied (Refused n) = true
 denied (Malformed part cause byte) = true
 
 -- the words after the mark
@@ -32,7 +30,7 @@ abbrev pub parts : Answer → List (List ℕ)
 parts Done = decimal 0 ∷ []
 parts (Wrote bytes) = decimal (length (vec_items bytes)) ∷ (hex (vec_items bytes) ∷ [])
 parts (Routed placed missed) = decimal placed ∷ (decimal missed ∷ [])
-parts (Refused refusal) = decimal (number_of refusal) ∷ []
+parts (Refused n) = decimal n ∷ []
 parts (Malformed part cause byte) = decimal 7 ∷ (decimal part ∷ (decimal cause ∷ (decimal byte ∷ [])))
 
 -- the row of an answer
@@ -44,7 +42,7 @@ abbrev pub Within : Answer → Type 0
 Within Done = Unit {0}
 Within (Wrote bytes) = (length (vec_items bytes) < 2 ^ 16) × Bytes (vec_items bytes)
 Within (Routed placed missed) = (placed < 2 ^ 8) × (missed < 2 ^ 8)
-Within (Refused refusal) = Unit {0}
+Within (Refused n) = (0 < n) × (n ≤ 14) × (n ≢ 7)
 Within (Malformed part cause byte) = (part < 2 ^ 8) × (cause < 2 ^ 8) × (byte < 2 ^ 16)
 
 -- a call whose answers have the form f may have the answer
@@ -52,7 +50,7 @@ abbrev pub Fits : Form → Answer → Type 0
 Fits f Done = f ≡ form.Nothing
 Fits f (Wrote bytes) = f ≡ form.Bytes
 Fits f (Routed placed missed) = f ≡ form.Counts
-Fits f (Refused refusal) = Unit {0}
+Fits f (Refused n) = Unit {0}
 Fits f (Malformed part cause byte) = Unit {0}
 
 -- what an answer says
@@ -67,7 +65,7 @@ abbrev pub said : Answer → Said
 said Done = done
 said (Wrote bytes) = wrote (vec_items bytes)
 said (Routed placed missed) = routed placed missed
-said (Refused refusal) = refused (number_of refusal)
+said (Refused n) = refused n
 said (Malformed part cause byte) = malformed part cause byte
 
 -- what is read of a row: the answer that it spells; none is refused but for want of memory, and only one with bytes
@@ -99,7 +97,7 @@ Placed ws (Err e) = (e ≢ OutOfMemory) × (Place ws → ⊥)
 
 -- ws are the words after '!'
 abbrev pub Denial : List (List ℕ) → Type 0
-Denial ws = ((refusal : Refusal) × (ws ≡ decimal (number_of refusal) ∷ [])) ⊎ ((left : List (List ℕ)) × (ws ≡ decimal 7 ∷ left) × Place left)
+Denial ws = ((n : ℕ) × (0 < n) × (n ≤ 14) × (n ≢ 7) × (ws ≡ decimal n ∷ [])) ⊎ ((left : List (List ℕ)) × (ws ≡ decimal 7 ∷ left) × Place left)
 
 -- what is read of the words ws after '!'
 abbrev pub Denied : List (List ℕ) → Result Answer Fault → Type 0

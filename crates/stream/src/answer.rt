@@ -24,7 +24,8 @@ pub enum Answer {
     Done,
     Wrote(Vec<u8>),
     Routed { placed: u8, missed: u8 },
-    Refused(Refusal),
+    // a number, since hosts may show and compare any; `Refusal` is the closed list of those that a row may have
+    Refused(u8),
     // numbers, since a recording may name a part or a cause that no message has
     Malformed { part: u8, cause: u8, byte: u16 },
 }
@@ -109,7 +110,7 @@ fn read_refused(words: &mut Words) -> Result<Answer, Fault>
     }
     let refusal = Refusal::try_from(number)?;
     words.end()?;
-    Ok(Answer::Refused(refusal))
+    Ok(Answer::Refused(u8::from(refusal)))
 }
 
 // The answer that `row` spells, of a call with answers of this form.
@@ -151,7 +152,7 @@ impl fmt::Display for Answer {
                 write!(f, "= {count} {hex}")
             }
             Answer::Routed { placed, missed } => write!(f, "= {placed} {missed}"),
-            Answer::Refused(refusal) => write!(f, "! {}", u8::from(*refusal)),
+            Answer::Refused(number) => write!(f, "! {number}"),
             Answer::Malformed { part, cause, byte } => write!(
                 f,
                 "! {MALFORMED} {part} {cause} {byte}"

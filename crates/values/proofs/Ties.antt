@@ -42,10 +42,13 @@ shape (single (struct t ts)) r = is_struct
 shape (entry j t) r = is_entry
 
 -- an element that begins with the code of this head
+pub head_at : (bytes : List ℕ) (e : Element) (r : List ℕ) (s : ℕ) (h : Head) → spell_element e r ≡ drop s bytes → head_code h ≡ get_or bytes s 0 → head_of_element e ≡ h
+head_at bytes e r s h k c = head_once (head_of_element e) h (element_begins e r (drop (s + 1) bytes) (get_or bytes s 0) (with_code bytes e r s k) ∙ sym c)
+
 pub shape_at : (bytes : List ℕ) (e : Element) (r : List ℕ) (s : ℕ) (h : Head) → spell_element e r ≡ drop s bytes → head_code h ≡ get_or bytes s 0 → Shape h e r (drop (s + 1) bytes)
 shape_at bytes e r s h k c =
     let front = with_code bytes e r s k in
-    subst (λ (x : Head). Shape x e r (drop (s + 1) bytes)) (head_once (head_of_element e) h (element_begins e r (drop (s + 1) bytes) (get_or bytes s 0) front ∙ sym c))
+    subst (λ (x : Head). Shape x e r (drop (s + 1) bytes)) (head_at bytes e r s h k c)
     (subst (λ (xs : List ℕ). Shape (head_of_element e) e r xs) (ap (drop 1) front) (shape e r))
 
 pub at_basic : {e : Element} {b : Basic} {r s : List ℕ} → Shape (head.Basic b) e r s → (lies_as e ≡ basic b) × (r ≡ s)

@@ -39,7 +39,7 @@ returns-in-Err c =
     in
     record {
       answer =
-          ap refused c.recorded.ensures
+          ap refused c.from-in-Err.ensures
           ∙ refused_back out (given (length out)).answer c.in-Err.refusal c.in-Err.ensures.answer
           ∙ ap (λ (n : ℕ). wrote_or_refused (given n).answer) size;
       after = c.line.ensures.lives ∙ ap (λ (n : ℕ). (given n).lives) size;

@@ -1,6 +1,4 @@
-use Rattle.std.proofs.Common.{[], ◌∷◌, None, Some, arith}
-use Rattle.std.proofs.lemmas.Bool.Decides.{Decides-eqb}
-use Rattle.std.proofs.lemmas.Slice.Eq.{strip_prefix_is}
+use Rattle.std.proofs.Common.{◌∷◌, arith}
 use Rattle.signature.specs.Phrases.{TypeAt}
 use Rattle.signature.proofs.Fronts.{weaken, shorter, one_rest, leaf_there, begun, keyed, no_entry_there, array_there, array_of, struct_there, struct_of, no_head, dict_there, dict_of, type_there, type_of, value_there, entry_of, first_member, last_member, next_member, other_members}
 use Rattle.signature.proofs.grammar.+complete_element_entry_members.Goals as goal
@@ -29,7 +27,7 @@ complete-returns-in-Entry t c left h =
 pub element-returns-in-None : goal.element-returns-in-None
 element-returns-in-None t c =
     weaken c.complete.result
-    (λ none left h. none left (type_there c.args.s.now c.args.arrays c.args.structs left (strip_prefix_is Decides-eqb c.args.s.now (123 ∷ []) None c.in-None.ensures.cases) h))
+    (λ none left h. none left (type_there c.args.s.now c.args.arrays c.args.structs left c.in-None.ensures h))
     (λ x h. type_of c.args.s.now c.args.arrays c.args.structs x.now h)
     c.complete.ensures
 
@@ -46,10 +44,10 @@ entry-returns t c =
     let d = c.args.structs in
     let r = c.in_ok-complete.field-0.now in
     let there : TypeAt f.value.now a d r = c.in_ok-complete.ensures in
-    weaken c.strip_prefix.result
+    weaken c.after.result
     (λ none left h. none left (one_rest f.value.now r (125 ∷ left) a d there (value_there s a d f.key.now f.value.now left f.ensures.cases.0 h).1))
     (λ x h. entry_of s a d f.key.now f.value.now x.now c.in_ok-ok.field-0 f.ensures.cases.0 (keyed f.key.now c.try_from.result c.in_ok-ok.field-0 c.in_ok-ok.ensures.value c.try_from.ensures) (rw h at there))
-    (strip_prefix_is Decides-eqb r (125 ∷ []) c.strip_prefix.result c.strip_prefix.ensures.cases)
+    c.after.ensures
 
 pub members-returns-in_err-rest : goal.members-returns-in_err-rest
 members-returns-in_err-rest t c =
@@ -62,7 +60,7 @@ members-members-requires t c =
 
 pub members-returns-in-Some : goal.members-returns-in-Some
 members-returns-in-Some t c =
-    last_member c.args.s.now c.args.arrays c.args.structs c.in-Some.left.now (rw (strip_prefix_is Decides-eqb c.in_ok-rest.rest.now (41 ∷ []) (Some c.in-Some.left) c.in-Some.ensures.cases) at c.in_ok-rest.ensures)
+    last_member c.args.s.now c.args.arrays c.args.structs c.in-Some.left.now (rw c.in-Some.ensures at c.in_ok-rest.ensures)
 
 pub members-returns-in-None : goal.members-returns-in-None
 members-returns-in-None t c =
@@ -71,7 +69,7 @@ members-returns-in-None t c =
     let d = c.args.structs in
     let r = c.in_ok-rest.rest.now in
     weaken c.members.result
-    (λ none left h. none left (other_members s a d r left (strip_prefix_is Decides-eqb c.in_ok-rest.rest.now (41 ∷ []) None c.in-None.ensures.cases) c.in_ok-rest.ensures h))
+    (λ none left h. none left (other_members s a d r left c.in-None.ensures c.in_ok-rest.ensures h))
     (λ x h. next_member s a d r x.now c.in_ok-rest.ensures h)
     c.members.ensures
 
@@ -114,13 +112,13 @@ complete-returns-in_ok-checked_sub-in-Struct t c =
 pub element-returns-in_err-checked_sub-in-Some : goal.element-returns-in_err-checked_sub-in-Some
 element-returns-in_err-checked_sub-in-Some t c =
     let shut = c.in_err-checked_sub-in-Some.ensures in
-    rw c.from_residual.ensures (λ left h. omega (arith, (dict_there c.args.s.now c.args.arrays c.args.structs c.in-Some.inner.now left (strip_prefix_is Decides-eqb c.args.s.now (123 ∷ []) (Some c.in-Some.inner) c.in-Some.ensures.cases) h 0 (omega arith)).0))
+    rw c.from_residual.ensures (λ left h. omega (arith, (dict_there c.args.s.now c.args.arrays c.args.structs c.in-Some.inner.now left c.in-Some.ensures h 0 (omega arith)).0))
 
 pub element-returns-in_ok-checked_sub-in-Some : goal.element-returns-in_ok-checked_sub-in-Some
 element-returns-in_ok-checked_sub-in-Some t c =
     let m = c.in_ok-checked_sub-in-Some.field-0 in
     let room = c.in_ok-checked_sub-in-Some.ensures in
     weaken c.entry.result
-    (λ none left h. none left (dict_there c.args.s.now c.args.arrays c.args.structs c.in-Some.inner.now left (strip_prefix_is Decides-eqb c.args.s.now (123 ∷ []) (Some c.in-Some.inner) c.in-Some.ensures.cases) h m (omega arith)).1)
-    (λ x h. dict_of c.args.s.now c.args.arrays c.args.structs c.in-Some.inner.now x.now (strip_prefix_is Decides-eqb c.args.s.now (123 ∷ []) (Some c.in-Some.inner) c.in-Some.ensures.cases) m (omega arith) h)
+    (λ none left h. none left (dict_there c.args.s.now c.args.arrays c.args.structs c.in-Some.inner.now left c.in-Some.ensures h m (omega arith)).1)
+    (λ x h. dict_of c.args.s.now c.args.arrays c.args.structs c.in-Some.inner.now x.now c.in-Some.ensures m (omega arith) h)
     c.entry.ensures
