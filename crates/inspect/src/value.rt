@@ -3,7 +3,7 @@ ghost use Rattle.std.specs.Prelude.{◌<◌, length, IfOk};
 
 use crate::failure::Failure;
 use crate::reader::Reader;
-use crate::words::{Plain, Quoted};
+use crate::words::Quoted;
 use order::ByteOrder;
 use signature::{Basic, Head, element_end};
 
@@ -100,10 +100,7 @@ impl<O: ByteOrder> Shown<'_, O> {
     pub fn variant(&mut self, levels: usize) -> Result<(), Failure> {
         let codes = self.reader.signature()?;
         self.text.push('<')?;
-        match Plain(codes).text() {
-            Some(text) => self.text.push_str(text)?,
-            None => write!(self.text, "{}", Plain(codes))?,
-        }
+        self.text.push_str(std::str::from_utf8(codes).map_err(|_| Failure::Unreadable)?)?;
         self.text.push(' ')?;
         self.value(codes, levels)?;
         self.text.push('>')?;

@@ -123,7 +123,7 @@ before_step c r rs ne = rw (ne_eqb r.connection c ne) (omega (arith, length-appe
 pub before_stop : (c : ℕ) (r : Record) (rs : List Record) → r.connection ≡ c → length (encode (before c (r ∷ rs))) ≡ 0
 before_stop c r rs e = rw (eq-eqb r.connection c e)
 
-sound_without : (c : ℕ) (rs : List Record) → Sound rs → Sound (without c rs)
+pub sound_without : (c : ℕ) (rs : List Record) → Sound rs → Sound (without c rs)
 sound_without c [] s = s
 sound_without c (r ∷ rs) s =
     let rest = All-tail Good r rs s in
@@ -158,7 +158,7 @@ fills_at counts lim all d = ⊎_elim
     (cases_lt d (length counts))
 
 -- a count less one, where a record of c is gone
-tallied_less : (counts : List ℕ) (rs ss : List Record) (c : ℕ) (m : List ℕ) → c < length counts → Tallied counts rs → messages c rs ≡ m ∷ messages c ss → ((d : ℕ) → (d ≡ c → ⊥) → messages d ss ≡ messages d rs) → Tallied (set counts c (get_or counts c 0 - 1)) ss
+pub tallied_less : (counts : List ℕ) (rs ss : List Record) (c : ℕ) (m : List ℕ) → c < length counts → Tallied counts rs → messages c rs ≡ m ∷ messages c ss → ((d : ℕ) → (d ≡ c → ⊥) → messages d ss ≡ messages d rs) → Tallied (set counts c (get_or counts c 0 - 1)) ss
 tallied_less counts rs ss c m h t here other d =
     let less = get_or counts c 0 - 1 in
     ⊎_elim
@@ -250,7 +250,7 @@ put_row area area' n used c m l e w =
       ends = ap (λ (x : List Record). length (encode x)) b.0 ∙ ap length (encode_append rs more) ∙ omega (arith, length-append (encode rs) (encode more), ap length (append-nil m));
     }
 
-tallied_put : (counts : List ℕ) (rs : List Record) (c : ℕ) (m : List ℕ) → c < length counts → Tallied counts rs → Tallied (set counts c (get_or counts c 0 + 1)) (rs ++ (record_of c m ∷ []))
+pub tallied_put : (counts : List ℕ) (rs : List Record) (c : ℕ) (m : List ℕ) → c < length counts → Tallied counts rs → Tallied (set counts c (get_or counts c 0 + 1)) (rs ++ (record_of c m ∷ []))
 tallied_put counts rs c m h t d =
     let o = ap length (messages_append d rs (record_of c m ∷ [])) ∙ length-append (messages d rs) (messages d (record_of c m ∷ [])) in
     ⊎_elim
